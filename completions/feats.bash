@@ -9,7 +9,7 @@ _feats_list() {
     'feats duplicates') echo '--alone --metadata --host --target --resolver --manifest -p --package --workspace -F --features --all-features --no-default-features --tests --format -h --help' ;;
     'feats tree') echo '-i --invert --depth -e --edges --metadata --host --target --resolver --manifest -p --package --workspace -F --features --all-features --no-default-features --tests --format -h --help' ;;
     'feats dot') echo '-e --edges --metadata --host --target --resolver --manifest -p --package --workspace -F --features --all-features --no-default-features --tests -h --help' ;;
-    'feats check') echo '--every-choice --metadata --host --target --resolver --manifest -p --package --workspace -F --features --all-features --no-default-features --tests --format -h --help' ;;
+    'feats check') echo '--every-choice --strict --metadata --host --target --resolver --manifest -p --package --workspace -F --features --all-features --no-default-features --tests --format -h --help' ;;
     'feats diff') echo '--host --target --resolver --manifest -p --package --workspace -F --features --all-features --no-default-features --tests --format -h --help' ;;
     'feats slim') echo '--member-manifests --metadata --host --target --resolver --manifest -p --package --workspace -F --features --all-features --no-default-features --tests --format -h --help' ;;
     'feats help') echo '' ;;
@@ -19,7 +19,7 @@ _feats_list() {
     'cargo duplicates') echo '--alone --target --resolver --manifest -p --package --workspace -F --features --all-features --no-default-features --tests --format -h --help --manifest-path --locked --offline --frozen' ;;
     'cargo tree') echo '-i --invert --depth -e --edges --target --resolver --manifest -p --package --workspace -F --features --all-features --no-default-features --tests --format -h --help --manifest-path --locked --offline --frozen' ;;
     'cargo dot') echo '-e --edges --target --resolver --manifest -p --package --workspace -F --features --all-features --no-default-features --tests -h --help --manifest-path --locked --offline --frozen' ;;
-    'cargo check') echo '--every-choice --target --resolver --manifest -p --package --workspace -F --features --all-features --no-default-features --tests --format -h --help --manifest-path --locked --offline --frozen' ;;
+    'cargo check') echo '--every-choice --strict --target --resolver --manifest -p --package --workspace -F --features --all-features --no-default-features --tests --format -h --help --manifest-path --locked --offline --frozen' ;;
   esac
 }
 

@@ -1,5 +1,5 @@
 #!/usr/bin/env python3
-"""A model of the names of `feats why|why-not|list` (docs/WHY.md, "Names"), for a document of `cargo metadata`.
+"""A model of the names of `feats why|why-not|list` and of the rules of policies (docs/WHY.md, "Names"), for a document of `cargo metadata`.
 
 A part is (ID, None) for a package, (ID, "NAME") for a feature, (ID, "dep:NAME") for an optional dependency.
 Run alone, it checks the worked rows below; the last line is `N passed, M failed`.
@@ -97,6 +97,26 @@ def named(document, selected, word):
     return found
 
 
+def packages_matching(document, word):
+    """The packages that the word of a rule names: those that it names as a word of `-p`, or else those whose names fit it."""
+    return packages_named(document, word) or [p for p in packages_of(document) if fits(word, p["name"])]
+
+
+def matching(document, selected, word):
+    """What the word of a rule names; else Unknown or Several."""
+    spec, slash, name = word.rpartition("/")
+    packages = packages_of(document)
+    found = [(package["id"], None) for package in packages_matching(document, word)]
+    if not found:
+        found = parts_among(packages_matching(document, spec), name) if slash else (
+            parts_among([p for p in packages if p["id"] in selected], word) or parts_among(packages, word))
+    if not found:
+        raise Unknown(word)
+    if len(found) > 1 and "*" not in word:
+        raise Several(found)
+    return found
+
+
 def package_named(document, word):
     """The id of the only package that a word of `-p` names; else Unknown or Several."""
     found = packages_named(document, word)
@@ -107,7 +127,7 @@ def package_named(document, word):
     return found[0]["id"]
 
 
-def outcome(document, selected, word):
+def outcome(document, selected, word, named=named):
     """What a word names as one value: ("named", parts), ("several", parts) or ("unknown",)."""
     try:
         return ("named", named(document, selected, word))
@@ -208,11 +228,32 @@ WORKED = [
     ([APP], "log/a**b", ("named", [(LOG, "a*b")])),
 ]
 
+# The selected packages, the word of a rule, and what it names.
+WORKED_RULES = [
+    ([APP], "clap", ("several", [(OLD, None), (NEW, None), (PRE, None)])),
+    ([APP], "cl*", ("named", [(OLD, None), (NEW, None), (PRE, None)])),
+    ([APP], "*", ("named", [(APP, None), (OTHER, None), (OLD, None), (NEW, None), (PRE, None), (LOG, None)])),
+    ([APP], "*@4", ("unknown",)),
+    ([APP], "clap@4", ("named", [(NEW, None)])),
+    ([APP], "clap@*", ("unknown",)),
+    ([APP], "*/std", ("named", [(OTHER, "std"), (OLD, "std"), (NEW, "std"), (LOG, "std")])),
+    ([APP], "*/tls", ("named", [(APP, "tls")])),
+    ([APP], "*o*/std*", ("named", [(OTHER, "std"), (LOG, "std"), (LOG, "std-extra")])),
+    ([APP], "*p/dep:*", ("named", [(APP, "dep:clap"), (APP, "dep:logger")])),
+    ([APP], "clap/std", ("several", [(OLD, "std"), (NEW, "std")])),
+    ([APP], "nothing*/std", ("unknown",)),
+    # packages come before features
+    ([APP], "tls*", ("named", [(APP, "tls"), (APP, "tls-native")])),
+    ([APP], "y*", ("named", [(OLD, "yaml")])),
+    ([APP], "", ("unknown",)),
+]
+
 
 def main():
     passed = failed = 0
-    for selected, word, wanted in WORKED:
-        found = outcome(DOCUMENT, selected, word)
+    rows = [(named, *row) for row in WORKED] + [(matching, *row) for row in WORKED_RULES]
+    for model, selected, word, wanted in rows:
+        found = outcome(DOCUMENT, selected, word, model)
         if found == wanted:
             passed += 1
         else:

@@ -2,8 +2,8 @@
 """A model of policies: the grammar of a policy file, and which of its rules a build breaks.
 
 A rule is (LINE, VERB, WORD, TRIPLE or None, REASON or None), and a verdict (RULE, SPOTS). A spot is (SIDE, ID of a package, kind, name), with
-the kinds of plan_model.py. For every choice a `deny` is judged for all platforms, in the plan of the widest selection. Run alone, it checks
-the worked rows below; the last line is `N passed, M failed`.
+the kinds of plan_model.py. For every choice a `deny` is judged in the plan of the widest selection, or if it is for a platform in that of all
+members with all their features and tests. Run alone, it checks the worked rows below; the last line is `N passed, M failed`.
 """
 import sys
 
@@ -15,6 +15,8 @@ from plan_model import HOST, TARGET
 
 # The characters that Unicode calls white space.
 WHITE = '\t\n\v\f\r \x85\xa0\u1680\u2000\u2001\u2002\u2003\u2004\u2005\u2006\u2007\u2008\u2009\u200a\u2028\u2029\u202f\u205f\u3000'
+# The builds in which rules are judged.
+HERE, WITH_ALL, EVERY = 'build', 'all', 'every-choice'
 NO_RULE, NO_WORD, NO_TRIPLE, EXTRA_WORD = 'no rule', 'no word', 'no triple', 'extra word'
 PROBLEMS = {
     NO_RULE: 'a rule begins with `deny`, `require` or `deny-duplicates`',
@@ -84,6 +86,16 @@ def is_on(plan, spot):
     return ((side, id), kind, name) in plan.on
 
 
+def is_built(plan, spot):
+    """Whether the package of a spot is built in a place with the features of the spot's side."""
+    return any(id == spot[1] and plan.side_of(place) == spot[0] for place, id in plan.built)
+
+
+def counts(plan, where, spot):
+    """Whether a spot is on, and its package is built there. For every choice all that is on counts."""
+    return is_on(plan, spot) and (where == EVERY or is_built(plan, spot))
+
+
 def is_built_for(plan, triple, spot):
     """Whether the package of a spot is built for a platform, with the features of the spot's side."""
     return any(id == spot[1] and plan.platform_of(place).triple == triple and plan.side_of(place) == spot[0] for place, id in plan.built)
@@ -92,34 +104,46 @@ def is_built_for(plan, triple, spot):
 def parts_named(document, selected, line, word):
     """What the word of a rule names; nothing, if it names nothing."""
     try:
-        return name_model.named(document, selected, word)
+        return name_model.matching(document, selected, word)
     except name_model.Unknown:
         return []
     except name_model.Several as several:
         raise Uncheckable(line, ('several', word, several.args[0])) from None
 
 
-def verdict_on(document, selected, plan, rule):
-    """The spots that break a rule; None, if it is kept. `document` is the value of the JSON text, and `plan` a Plan of it. The rule's word is
-    looked up in the packages `selected` first."""
+def verdict_on(document, selected, plan, where, rule):
+    """The spots that break a rule; None, if it is kept. `document` is the value of the JSON text, and `plan` a Plan of it, that of the build
+    `where`. The rule's word is looked up in the packages `selected` first."""
     line, verb, word, triple, _ = rule
     if triple is not None and triple not in {it.triple for it in [plan.selection.host, *plan.selection.platforms()]}:
         raise Uncheckable(line, ('platform', triple))
     if verb == 'deny-duplicates':
         built = {id for _, id in plan.built}
-        ids = [it['id'] for it in name_model.packages_named(document, word) if it['id'] in built]
-        return [it for it in spots_of((id, None) for id in ids) if is_on(plan, it)] if len(ids) > 1 else None
-    spots = [it for it in spots_of(parts_named(document, selected, line, word)) if is_on(plan, it)]
+        packages = [it for it in name_model.packages_matching(document, word) if it['id'] in built]
+        names = [it['name'] for it in packages]
+        ids = [it['id'] for it in packages if names.count(it['name']) > 1]
+        return [it for it in spots_of((id, None) for id in ids) if counts(plan, where, it)] if ids else None
+    spots = [it for it in spots_of(parts_named(document, selected, line, word)) if counts(plan, where, it)]
     if verb == 'require':
         return None if spots else []
     return [it for it in spots if triple is None or is_built_for(plan, triple, it)] or None
 
 
-def verdicts_of(document, plan, rules, widest=None):
-    """The broken rules, each with the spots that break it, in their order; or Uncheckable. `widest` is the plan of the widest selection, if the
-    rules are judged for every choice."""
-    found = [(rule, verdict_on(document, plan.selected, where, rule)) for where, rule in (judged(plan, widest, it) for it in rules)]
+def verdicts_of(document, plans, rules):
+    """The broken rules, each with the spots that break it, in their order; or Uncheckable. `plans` are the plans by the builds in which rules are
+    judged: with more than that of HERE, the rules are judged for every choice."""
+    found = [(rule, verdict_on(document, plans[HERE].selected, plans[judged(plans, rule)], judged(plans, rule), rule)) for rule in rules]
     return [it for it in found if it[1] is not None]
+
+
+def unmatched(document, selected, rules):
+    """The rules whose words name nothing."""
+    def is_unmatched(rule):
+        if rule[1] == 'deny-duplicates':
+            return not name_model.packages_matching(document, rule[2])
+        return name_model.outcome(document, selected, rule[2], name_model.matching) == ('unknown',)
+
+    return [it for it in rules if is_unmatched(it)]
 
 
 # Every choice.
@@ -138,10 +162,15 @@ def widest_of(selection):
     return selection._replace(words=None, is_workspace=True, is_all=True, no_default=False, is_test=True, host=every, targets=[every])
 
 
-def judged(plan, widest, rule):
-    """The plan in which a rule is judged, and the rule as it is judged."""
-    line, verb, word, _, reason = rule
-    return (plan, rule) if widest is None or verb != 'deny' else (widest, (line, verb, word, None, reason))
+def all_of(selection):
+    """The selection of all members with all their features and tests, for the same platforms."""
+    return selection._replace(words=None, is_workspace=True, is_all=True, no_default=False, is_test=True)
+
+
+def judged(plans, rule):
+    """The build in which a rule is judged."""
+    _, verb, _, triple, _ = rule
+    return HERE if EVERY not in plans or verb != 'deny' else EVERY if triple is None else WITH_ALL
 
 
 # The answers.
@@ -155,18 +184,31 @@ def words_of(rule):
     return f'{verb} {word}' + (f' on {triple}' if triple is not None else '')
 
 
-def verdict_lines(file, rule, whys):
-    """The lines about a broken rule, where `whys` are the lines that explain what is on."""
-    breach = {'deny': 'it is on', 'require': 'it is off', 'deny-duplicates': 'several are built'}[rule[1]]
+def verdict_lines(file, where, rule, whys):
+    """The lines about a broken rule that is judged in the build `where`, where `whys` are the lines that explain what is on."""
+    denied = {HERE: 'it is on', WITH_ALL: 'it is on with all members, features and tests', EVERY: 'some choice may break it'}[where]
+    breach = {'deny': denied, 'require': 'it is off', 'deny-duplicates': 'several are built'}[rule[1]]
     reason = f' ({rule[4]})' if rule[4] is not None else ''
     indented = ''.join(it if it == '\n' else '    ' + it for it in whys.splitlines(keepends=True))
     return f'{place_of(file, rule[0])}{words_of(rule)}: {breach}{reason}\n{indented}'
 
 
-def object_of(rule):
-    """The members of the object of a broken rule, without those that explain what breaks it."""
+def object_of(where, rule):
+    """The members of the object of a broken rule that is judged in the build `where`, without those that explain what breaks it."""
     line, verb, word, triple, reason = rule
-    return {'line': line, 'rule': verb, 'word': word, 'platform': triple, 'reason': reason}
+    return {'line': line, 'rule': verb, 'word': word, 'platform': triple, 'reason': reason, 'judged': where}
+
+
+def unmatched_message(file, rule):
+    """The message about a rule whose word names nothing."""
+    return f'{place_of(file, rule[0])}`{rule[2]}` names nothing in the document: check the spelling, or leave the rule out'
+
+
+def warnings_of(file, document, plans, rules):
+    """The warnings about the rules of a policy, judged in these plans."""
+    if EVERY in plans and any(it[1] != 'deny' for it in rules):
+        yield f'{file}: `require` and `deny-duplicates` are judged for this build alone'
+    yield from (unmatched_message(file, it) for it in unmatched(document, plans[HERE].selected, rules))
 
 
 def message_of(file, fault):
@@ -231,6 +273,7 @@ def outcome(text):
 
 
 # A workspace of one member, which has two features, an optional dependency, a build script with a dependency, and two versions of one package.
+# `unbuilt` is a build-dependency of a package without a build script.
 def a_package(id, name, version, dependencies=(), features=None, kinds=('lib',)):
     targets = [{'name': name, 'kind': [kind], 'test': True, 'doctest': False} for kind in kinds]
     return {'id': id, 'name': name, 'version': version, 'source': None if id == 'app#1' else 'r', 'dependencies': list(dependencies),
@@ -248,7 +291,8 @@ DOCUMENT = {
                   {'default': ['a'], 'a': [], 'b': ['dep:new']}, ('lib', 'custom-build')),
         a_package('log#1', 'log', '1.0.0', features={'std': []}),
         a_package('log#2', 'log', '2.0.0', features={'std': []}),
-        a_package('old#1', 'old', '1.0.0', [a_dependency('log', req='^1', features=['std'])]),
+        a_package('old#1', 'old', '1.0.0', [a_dependency('log', req='^1', features=['std']), a_dependency('unbuilt', 'build')]),
+        a_package('unbuilt#1', 'unbuilt', '1.0.0'),
         a_package('new#1', 'new', '1.0.0', [a_dependency('log', req='^2')]),
         a_package('tool#1', 'tool', '1.0.0', [a_dependency('log', req='^2', features=['std'])]),
     ],
@@ -260,7 +304,9 @@ DOCUMENT = {
                                  {'name': 'tool', 'pkg': 'tool#1', 'dep_kinds': [{'kind': 'build', 'target': None}]}]},
         {'id': 'log#1', 'deps': []},
         {'id': 'log#2', 'deps': []},
-        {'id': 'old#1', 'deps': [{'name': 'log', 'pkg': 'log#1', 'dep_kinds': [{'kind': None, 'target': None}]}]},
+        {'id': 'old#1', 'deps': [{'name': 'log', 'pkg': 'log#1', 'dep_kinds': [{'kind': None, 'target': None}]},
+                                 {'name': 'unbuilt', 'pkg': 'unbuilt#1', 'dep_kinds': [{'kind': 'build', 'target': None}]}]},
+        {'id': 'unbuilt#1', 'deps': []},
         {'id': 'new#1', 'deps': [{'name': 'log', 'pkg': 'log#2', 'dep_kinds': [{'kind': None, 'target': None}]}]},
         {'id': 'tool#1', 'deps': [{'name': 'log', 'pkg': 'log#2', 'dep_kinds': [{'kind': None, 'target': None}]}]},
     ]},
@@ -288,21 +334,50 @@ CHECKED = [
     ('deny-duplicates log', [(TARGET, 'log#1', 'base', ''), (HOST, 'log#2', 'base', '')]),
     ('deny-duplicates log@2', None),
     ('deny-duplicates nothing', None),
+    # what is on and isn't built
+    ('deny unbuilt', None),
+    ('require unbuilt', []),
+    # stars
+    ('deny ol*', [(TARGET, 'old#1', 'base', '')]),
+    ('deny lo*', [(TARGET, 'log#1', 'base', ''), (HOST, 'log#2', 'base', '')]),
+    ('deny */std', [(TARGET, 'log#1', 'feature', 'std'), (HOST, 'log#2', 'feature', 'std')]),
+    ('deny l*/s*d on one', [(TARGET, 'log#1', 'feature', 'std')]),
+    ('deny *ssl/std', None),
+    ('require */b', []),
+    ('require *l*/*', None),
+    ('deny-duplicates *', [(TARGET, 'log#1', 'base', ''), (HOST, 'log#2', 'base', '')]),
+    ('deny-duplicates l*', [(TARGET, 'log#1', 'base', ''), (HOST, 'log#2', 'base', '')]),
+    ('deny-duplicates *o*l*', None),
 ]
 
 
-# A line, and the rule that is broken for every choice, without its line, with the spots that break it; None, or why it can't be checked.
+# A line, and the rule that is broken for every choice, without its line, with the spots that break it; None, or why it can't be checked; and
+# where it is judged.
 CHECKED_WIDELY = [
-    ('deny app/b', ('deny', 'app/b', None, None), [(TARGET, 'app#1', 'feature', 'b')]),
-    ('deny app/b on one', ('deny', 'app/b', None, None), [(TARGET, 'app#1', 'feature', 'b')]),
-    ('deny app/b on three # why', ('deny', 'app/b', None, 'why'), [(TARGET, 'app#1', 'feature', 'b')]),
-    ('deny log@2 on one', ('deny', 'log@2', None, None), [(TARGET, 'log#2', 'base', ''), (HOST, 'log#2', 'base', '')]),
-    ('deny nothing', None, None),
-    ('deny log/std', None, ('several', 'log/std', [('log#1', 'std'), ('log#2', 'std')])),
-    ('require app/a', None, None),
-    ('require app/b', ('require', 'app/b', None, None), []),
-    ('deny-duplicates log', ('deny-duplicates', 'log', None, None), [(TARGET, 'log#1', 'base', ''), (HOST, 'log#2', 'base', '')]),
-    ('deny-duplicates new', None, None),
+    ('deny app/b', ('deny', 'app/b', None, None), [(TARGET, 'app#1', 'feature', 'b')], EVERY),
+    ('deny app/b on one', ('deny', 'app/b', 'one', None), [(TARGET, 'app#1', 'feature', 'b')], WITH_ALL),
+    ('deny app/b on host', None, None, WITH_ALL),
+    ('deny app/b on three # why', None, ('platform', 'three'), WITH_ALL),
+    ('deny log@2', ('deny', 'log@2', None, None), [(TARGET, 'log#2', 'base', ''), (HOST, 'log#2', 'base', '')], EVERY),
+    ('deny log@2 on one # why', ('deny', 'log@2', 'one', 'why'), [(TARGET, 'log#2', 'base', '')], WITH_ALL),
+    ('deny log@2 on host', ('deny', 'log@2', 'host', None), [(HOST, 'log#2', 'base', '')], WITH_ALL),
+    ('deny unbuilt', ('deny', 'unbuilt', None, None), [(HOST, 'unbuilt#1', 'base', '')], EVERY),
+    ('deny unbuilt on host', None, None, WITH_ALL),
+    ('deny nothing', None, None, EVERY),
+    ('deny log/std', None, ('several', 'log/std', [('log#1', 'std'), ('log#2', 'std')]), EVERY),
+    ('require app/a', None, None, HERE),
+    ('require app/b', ('require', 'app/b', None, None), [], HERE),
+    ('require unbuilt', ('require', 'unbuilt', None, None), [], HERE),
+    ('deny-duplicates log', ('deny-duplicates', 'log', None, None), [(TARGET, 'log#1', 'base', ''), (HOST, 'log#2', 'base', '')], HERE),
+    ('deny-duplicates new', None, None, HERE),
+]
+
+# A line, and whether its word names nothing.
+UNMATCHED = [
+    ('deny app/b', False), ('deny opensll', True), ('deny app/c', True), ('deny app/dep:new', False), ('deny app/dep:old', True), ('deny a*', False),
+    ('deny */full', True), ('deny */std', False), ('deny log/std', False), ('deny std', False), ('require nothing', True), ('require new', False),
+    ('deny-duplicates new', False), ('deny-duplicates *', False), ('deny-duplicates n*x', True), ('deny-duplicates log@3', True),
+    ('deny-duplicates std', True), ('deny nothing on one', True),
 ]
 
 
@@ -310,31 +385,46 @@ def a_platform(triple):
     return plan_model.Platform(triple, '')
 
 
-def a_plan(is_widest=False):
-    selection = plan_model.Selection(a_platform('host'), [a_platform('one'), a_platform('two')], True, None, False, [], False, False, False)
-    return plan_model.Plan(plan_model.document_of(DOCUMENT), widest_of(selection) if is_widest else selection)
+SELECTION = plan_model.Selection(a_platform('host'), [a_platform('one'), a_platform('two')], True, None, False, [], False, False, False)
+
+
+def plans_of(document, selection, is_wide):
+    """The plans by the builds in which rules are judged."""
+    selections = {HERE: selection, **({WITH_ALL: all_of(selection), EVERY: widest_of(selection)} if is_wide else {})}
+    return {where: plan_model.Plan(document, it) for where, it in selections.items()}
+
+
+def worked_plans(is_wide):
+    return plans_of(plan_model.document_of(DOCUMENT), SELECTION, is_wide)
 
 
 def checked(line):
     try:
-        verdicts = verdicts_of(DOCUMENT, a_plan(), rules_of(line))
+        verdicts = verdicts_of(DOCUMENT, worked_plans(False), rules_of(line))
     except Uncheckable as fault:
         return fault.args[1]
     return verdicts[0][1] if verdicts else None
 
 
 def checked_widely(line):
+    plans, rules = worked_plans(True), rules_of(line)
+    where = judged(plans, rules[0])
     try:
-        verdicts = verdicts_of(DOCUMENT, a_plan(), rules_of(line), a_plan(True))
+        verdicts = verdicts_of(DOCUMENT, plans, rules)
     except Uncheckable as fault:
-        return None, fault.args[1]
-    return (verdicts[0][0][1:], verdicts[0][1]) if verdicts else (None, None)
+        return None, fault.args[1], where
+    return (verdicts[0][0][1:], verdicts[0][1], where) if verdicts else (None, None, where)
+
+
+def is_unmatched(line):
+    return unmatched(DOCUMENT, worked_plans(False)[HERE].selected, rules_of(line)) != []
 
 
 def main():
     failed = 0
     rows = [(outcome, *it) for it in WORKED] + [(checked, *it) for it in CHECKED] + [(checked_widely, line, wanted) for line, *wanted in CHECKED_WIDELY]
     rows = [(run, text, tuple(wanted) if run is checked_widely else wanted) for run, text, wanted in rows]
+    rows += [(is_unmatched, *it) for it in UNMATCHED]
     for run, text, wanted in rows:
         came = run(text)
         if came != wanted:

@@ -179,7 +179,15 @@ fn outcome(ended: Ended, is_closed: bool) -> Result<bool, Fault> {
     }
 }
 
-/// Writes the answer over the document of `reader` to standard output. Returns whether it is negative.
+/// Prints each of `warnings` as a line on standard error.
+fn warn(rt: &HostRuntime, warnings: &[String]) {
+    for warning in warnings {
+        // A failed write to standard error can't be reported anywhere.
+        let _ = eprintln!(rt; "feats: {warning}");
+    }
+}
+
+/// Writes the answer over the document of `reader` to standard output, and the warnings to standard error. Returns whether it is negative.
 fn answer_document<R: ByteInput>(
     rt: &HostRuntime,
     arguments: &CommandArguments<'_>,
@@ -189,8 +197,9 @@ fn answer_document<R: ByteInput>(
     requires { R.failed reader.old ≡ false }
 {
     let mut writer = ToWriter::new(io::writer(rt));
-    let ended = run(rt.alloc(), arguments, files, reader, &mut writer)?;
-    outcome(ended, writer.is_closed())
+    let ran = run(rt.alloc(), arguments, files, reader, &mut writer)?;
+    warn(rt, &ran.warnings);
+    outcome(ran.ended, writer.is_closed())
 }
 
 /// Answers `arguments`, over these files and the document that they name. Returns whether the answer is negative.

@@ -31,7 +31,7 @@ Answers (list word) a w words build = IsPositive (IsListText a.arguments.format 
 Answers (duplicates alone) a w words build = IsPositive (IsDuplicatesText a.arguments.format alone a.targets w words build)
 Answers (tree invert) a w words build = IsTreeBy a.arguments.edges a w words build invert
 Answers dot a w words build = IsDotBy a.arguments.edges a.targets w words build
-Answers (check file every_choice) a w words build = IsCheckAnswer a w (declared_specs w.packages) words build file every_choice
+Answers (check file every_choice strict) a w words build = IsCheckAnswer a w (declared_specs w.packages) words build file every_choice
 Answers (slim file) a w words build = IsPositive (IsSlimBy a.arguments.format a.member_manifests w words build.units)
 
 -- THE ANSWER to the question of the arguments about the build of these words.
@@ -48,7 +48,7 @@ Refuses (list word) a w words build = IsNameRefusal w.packages (package_named w.
 Refuses (duplicates alone) a w words build = λ _. ⊥
 Refuses (tree invert) a w words build = IsNoTreeBy a.arguments.edges w words invert
 Refuses dot a w words build = λ _. ⊥
-Refuses (check file every_choice) a w words build = IsCheckRefusal a w (declared_specs w.packages) words build file every_choice
+Refuses (check file every_choice strict) a w words build = IsCheckRefusal a w (declared_specs w.packages) words build file every_choice
 Refuses (slim file) a w words build = IsNoSlim a.member_manifests
 
 -- THE MESSAGE that refuses the question: its word names nothing or several things, a policy can't be checked, or a manifest isn't TOML.

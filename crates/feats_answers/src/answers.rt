@@ -206,6 +206,7 @@ pub fn answer_to<'w, 'n, 's>(
         Question::Check {
             policy: file,
             every_choice,
+            strict: _,
         } => {
             let policy = PolicyWord { file, every_choice };
             check_answer(alloc, asked, policy, workspace, specs, words, plan)

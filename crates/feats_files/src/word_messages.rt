@@ -41,6 +41,10 @@ pub fn words_refused(alloc: Global, fault: WordsFault<'_>) -> Fault
             alloc,
             &["`dot` prints a graph for Graphviz: leave --format out"],
         ),
+        WordsFault::PackagesOfEveryChoice => refused(
+            alloc,
+            &["`--every-choice` is about all members of the workspace: leave -p out"],
+        ),
         WordsFault::Depth(word) => refused(
             alloc,
             &["`", word, "` isn't a depth: write a decimal number"],

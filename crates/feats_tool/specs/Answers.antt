@@ -1,5 +1,5 @@
 -- The answer for arguments and the bytes of files, or the message why there is none.
-use Rattle.std.specs.Prelude.{◌≡◌, List, true}
+use Rattle.std.specs.Prelude.{◌≡◌, List, [], Bool, true}
 use Rattle.cargo_workspaces.specs.Workspaces.{Text}
 use Rattle.feats_answers.specs.AnswerTexts.{AnswerText}
 use Rattle.feats_answers.specs.Answers.{IsAnswerTo, IsNoAnswerTo}
@@ -9,6 +9,8 @@ use Rattle.feats_plans.specs.Inputs.{InputsText}
 use Rattle.feats_plans.specs.Planned.{PlannedText}
 use Rattle.feats_plans.specs.Planning.{AfterPlanning, IsPlanningRefusal}
 use Rattle.feats_tool.specs.Rules.{AreRules, IsRulesRefusal}
+use Rattle.feats_words.specs.Requests.{QuestionText, check}
+use Rattle.policy_answers.specs.Warnings.{ArePolicyWarnings, IsStrictRefusal, PolicyWordsText}
 use Rattle.policies.specs.Rules.{RuleText}
 use Rattle.shown_texts.specs.Plain.{is_plain}
 
@@ -16,27 +18,47 @@ use Rattle.shown_texts.specs.Plain.{is_plain}
 abbrev pub asked_by : InputsText → List RuleText → AskedText
 asked_by inputs rules = record { arguments = inputs.arguments; rules = rules; targets = inputs.targets; member_manifests = inputs.member_manifests }
 
--- The answer about a plan, with these rules.
-abbrev pub IsPlanAnswer : List RuleText → PlannedText → AnswerText → Type 0
-IsPlanAnswer rules p answer = IsAnswerTo (asked_by p.inputs rules) p.workspace p.words p.plan answer
+-- An answer, and warnings.
+pub record AnsweredText : Type 0 where
+  pub answer : AnswerText
+  pub warnings : List Text
 
--- The message why there is none: the question has no answer about the plan.
-abbrev pub IsPlanRefusal : List RuleText → PlannedText → Text → Type 0
-IsPlanRefusal rules p message = IsNoAnswerTo (asked_by p.inputs rules) p.workspace p.words p.plan message
+abbrev pub policy_words : Text → Bool → Bool → List RuleText → PolicyWordsText
+policy_words file every_choice strict rules = record { file = file; every_choice = every_choice; strict = strict; rules = rules }
 
--- THE ANSWER for the arguments, the files and the bytes of the document.
-pub record IsAnswer (inputs : InputsText) (bytes : Text) (answer : AnswerText) : Type 0 where
+-- The warnings about the rules of the policy; none, if the question names no policy.
+abbrev pub AreWarnings : QuestionText → List RuleText → PlannedText → List Text → Type 0
+AreWarnings (check file every_choice strict) rules p lines = ArePolicyWarnings (policy_words file every_choice strict rules) p.workspace p.words lines
+AreWarnings _ rules p lines = lines ≡ []
+
+-- The message about a rule whose word names nothing, if each must name something.
+abbrev pub IsStrictly : QuestionText → List RuleText → PlannedText → Text → Type 0
+IsStrictly (check file every_choice strict) rules p message = IsStrictRefusal (policy_words file every_choice strict rules) p.workspace p.words message
+IsStrictly _ rules p message = ⊥
+
+-- The answer about a plan, with these rules, and the warnings.
+pub record IsPlanAnswer (rules : List RuleText) (p : PlannedText) (answered : AnsweredText) : Type 0 where
+  pub are_warnings : AreWarnings p.inputs.arguments.question rules p answered.warnings
+  pub is_answer : IsAnswerTo (asked_by p.inputs rules) p.workspace p.words p.plan answered.answer
+
+-- The message why there is none: a word of a rule names nothing, or the question has no answer about the plan.
+pub data IsPlanRefusal (rules : List RuleText) (p : PlannedText) (message : Text) : Type 0 where
+  of_warnings : IsStrictly p.inputs.arguments.question rules p message → IsPlanRefusal rules p message
+  of_question : IsNoAnswerTo (asked_by p.inputs rules) p.workspace p.words p.plan message → IsPlanRefusal rules p message
+
+-- THE ANSWER for the arguments, the files and the bytes of the document, and the warnings.
+pub record IsAnswer (inputs : InputsText) (bytes : Text) (answered : AnsweredText) : Type 0 where
   pub rules : List RuleText
   pub are_rules : AreRules inputs.arguments.question inputs.policy rules
-  pub is_answer : AfterPlanning inputs bytes (λ p. IsPlanAnswer rules p answer)
+  pub is_answer : AfterPlanning inputs bytes (λ p. IsPlanAnswer rules p answered)
 
 -- THE TEXT that is written: that of the answer, in which each control character but the line feeds is escaped; no other is in it.
-pub record IsShown (inputs : InputsText) (bytes : Text) (shown : AnswerText) : Type 0 where
+pub record IsShown (inputs : InputsText) (bytes : Text) (shown : AnsweredText) : Type 0 where
   pub answer : AnswerText
-  pub is_answer : IsAnswer inputs bytes answer
-  pub content : shown.content ≡ shown_in inputs.arguments.format answer.content
-  pub plain : is_plain shown.content ≡ true
-  pub is_negative : shown.is_negative ≡ answer.is_negative
+  pub is_answer : IsAnswer inputs bytes (record { answer = answer; warnings = shown.warnings })
+  pub content : shown.answer.content ≡ shown_in inputs.arguments.format answer.content
+  pub plain : is_plain shown.answer.content ≡ true
+  pub is_negative : shown.answer.is_negative ≡ answer.is_negative
 
 -- The message why there is no answer: the policy is at fault, then another file or the document, and then the plan or the question.
 pub data IsNoAnswer (inputs : InputsText) (bytes message : Text) : Type 0 where

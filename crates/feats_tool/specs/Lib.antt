@@ -1,3 +1,4 @@
+pub mod AnsweredView
 pub mod Answers
 pub mod Rules
 pub mod Run

@@ -10,7 +10,7 @@ use Rattle.policy_lines.specs.Messages.{IsPolicyMessage}
 
 -- The rules of the bytes of the policy's file; none, if the question names no policy.
 abbrev pub AreRules : QuestionText → Text → List RuleText → Type 0
-AreRules (check file every_choice) bytes rules = IsUtf8 bytes × ArePolicy bytes rules
+AreRules (check file every_choice strict) bytes rules = IsUtf8 bytes × ArePolicy bytes rules
 AreRules _ bytes rules = rules ≡ []
 
 abbrev pub policy_message : Text → Text
@@ -23,5 +23,5 @@ pub data IsFileRefusal (file bytes message : Text) : Type 0 where
 
 -- The same, if the question names a policy.
 abbrev pub IsRulesRefusal : QuestionText → Text → Text → Type 0
-IsRulesRefusal (check file every_choice) bytes message = IsFileRefusal file bytes message
+IsRulesRefusal (check file every_choice strict) bytes message = IsFileRefusal file bytes message
 IsRulesRefusal _ bytes message = ⊥

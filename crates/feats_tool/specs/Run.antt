@@ -1,5 +1,5 @@
 -- How a run ends, and what it has written.
-use Rattle.std.specs.Prelude.{◌≡◌, Option, Bool, true, false, IfSome, string_bytes}
+use Rattle.std.specs.Prelude.{◌≡◌, List, Option, Bool, true, false, IfSome, string_bytes}
 use Rattle.std.specs.Io.KnownBytes.{Keeps}
 use Rattle.cargo_workspaces.specs.Workspaces.{Text}
 use Rattle.feats_files.specs.declared.fault.Fault.{Fault}
@@ -9,10 +9,11 @@ use Rattle.feats_files.specs.Writing.{Writes}
 use Rattle.feats_tool.specs.Answers.{IsNoAnswer, IsShown}
 use Rattle.feats_plans.specs.Inputs.{InputsText, unread_message}
 
--- THE END of a run over the bytes `left` that has an answer: its text as it is shown, whether it is negative, and the part of it that was written.
-pub record HasAnswer (inputs : InputsText) (ended : Ended) (left old new : Option Text) : Type 0 where
+-- THE END of a run over the bytes `left` that has an answer: its text as it is shown, whether it is negative, the part of it that was written,
+-- and the warnings.
+pub record HasAnswer (inputs : InputsText) (ended : Ended) (warnings : List Text) (left old new : Option Text) : Type 0 where
   pub text : Text
-  pub is_answer : IfSome left (λ bytes. IsShown inputs bytes (record { content = text; is_negative = ended.is_negative }))
+  pub is_answer : IfSome left (λ bytes. IsShown inputs bytes (record { answer = record { content = text; is_negative = ended.is_negative }; warnings = warnings }))
   pub written : Writes ended.is_written text old new
 
 -- Why a run over the bytes `left` has no answer: a read failed, or the bytes have none.

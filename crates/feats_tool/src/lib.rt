@@ -1,12 +1,14 @@
 //! The engine of the program `feats`: reads the document of a workspace, makes a plan, and writes the answer to a question about it.
 #![tactic(auto)]
 
+mod answered;
 mod answers;
 mod engine;
 mod rules;
 mod visitor;
 mod word_faults;
 
+pub use answered::{Answered, Outcome};
 pub use answers::answer;
 pub use engine::run;
 pub use feats_plans::{PlanFiles, platform_file};

@@ -4,27 +4,60 @@ ghost use Rattle.cargo_plans.specs.Plans.{IsPlanOf};
 ghost use Rattle.feats_answers.specs.AnswerViews.{answer_text};
 ghost use Rattle.feats_files.specs.Messages.{Says};
 ghost use Rattle.feats_plans.specs.PlannedView.{planned_text};
-ghost use Rattle.feats_tool.specs.Answers.{IsPlanAnswer, IsPlanRefusal};
+ghost use Rattle.feats_answers.specs.Answers.{IsAnswerTo, IsNoAnswerTo};
+ghost use Rattle.feats_tool.specs.AnsweredView.{answered_text};
+ghost use Rattle.feats_tool.specs.Answers.{AreWarnings, IsPlanAnswer, IsPlanRefusal, IsStrictly, asked_by};
+ghost use Rattle.policy_answers.specs.WarningViews.{string_texts};
 ghost use Rattle.plan_platforms.specs.DeclaredSpecs.{declared_specs};
 ghost use Rattle.plan_platforms.specs.Views.{declared_text};
 ghost use Rattle.policies.specs.Views.{rule_text};
 
+use crate::answered::Answered;
 use feats_answers::{Answer, Asked, answer_to};
 use feats_files::Fault;
 use feats_plans::{PlanVisitor, Planned};
+use feats_words::Question;
 use policies::Rule;
+use policy_answers::{PolicyWords, policy_warnings};
 use std::alloc::Global;
 
+/// Returns the warnings about `rules`, those of the policy; none, if the arguments name no policy.
+fn warnings_of(
+    alloc: Global,
+    rules: &[Rule<'_>],
+    planned: &Planned<'_, '_, '_, '_, '_>,
+) -> Result<Vec<String>, Fault>
+    ensures warnings { IfOk result (λ lines. AreWarnings (planned_text planned.now).inputs.arguments.question (map rule_text rules.now) (planned_text planned.now) (string_texts lines.items)) }
+    ensures fault { IfErr result (λ fault. Says fault (IsStrictly (planned_text planned.now).inputs.arguments.question (map rule_text rules.now) (planned_text planned.now))) }
+{
+    match planned.arguments.question {
+        Question::Check {
+            policy: file,
+            every_choice,
+            strict,
+        } => {
+            let policy = PolicyWords {
+                file,
+                every_choice,
+                strict,
+                rules,
+            };
+            policy_warnings(alloc, policy, planned.workspace, planned.words)
+        }
+        _ => Ok(Vec::new(alloc)),
+    }
+}
+
 /// Returns the answer to the question of the arguments about the plan. `rules` are those of the policy.
-fn planned_answer(
+fn answer_of(
     alloc: Global,
     rules: &[Rule<'_>],
     planned: &Planned<'_, '_, '_, '_, '_>,
 ) -> Result<Answer, Fault>
     requires specs { map declared_text planned.now.specs.now ≡ declared_specs (planned_text planned.now).workspace.packages }
     requires plan { IsPlanOf (planned_text planned.now).workspace (planned_text planned.now).words (planned_text planned.now).plan }
-    ensures answer { IfOk result (λ answer. IsPlanAnswer (map rule_text rules.now) (planned_text planned.now) (answer_text answer)) }
-    ensures fault { IfErr result (λ fault. Says fault (IsPlanRefusal (map rule_text rules.now) (planned_text planned.now))) }
+    ensures answer { IfOk result (λ answer. IsAnswerTo (asked_by (planned_text planned.now).inputs (map rule_text rules.now)) (planned_text planned.now).workspace (planned_text planned.now).words (planned_text planned.now).plan (answer_text answer)) }
+    ensures fault { IfErr result (λ fault. Says fault (IsNoAnswerTo (asked_by (planned_text planned.now).inputs (map rule_text rules.now)) (planned_text planned.now).workspace (planned_text planned.now).words (planned_text planned.now).plan)) }
 {
     let asked = Asked {
         arguments: planned.arguments,
@@ -42,6 +75,22 @@ fn planned_answer(
     )
 }
 
+/// Returns the answer to the question of the arguments about the plan, and the warnings. `rules` are those of the policy.
+fn planned_answer(
+    alloc: Global,
+    rules: &[Rule<'_>],
+    planned: &Planned<'_, '_, '_, '_, '_>,
+) -> Result<Answered, Fault>
+    requires specs { map declared_text planned.now.specs.now ≡ declared_specs (planned_text planned.now).workspace.packages }
+    requires plan { IsPlanOf (planned_text planned.now).workspace (planned_text planned.now).words (planned_text planned.now).plan }
+    ensures answer { IfOk result (λ answered. IsPlanAnswer (map rule_text rules.now) (planned_text planned.now) (answered_text answered)) }
+    ensures fault { IfErr result (λ fault. Says fault (IsPlanRefusal (map rule_text rules.now) (planned_text planned.now))) }
+{
+    let warnings = warnings_of(alloc, rules, planned)?;
+    let answer = answer_of(alloc, rules, planned)?;
+    Ok(Answered { answer, warnings })
+}
+
 /// The visitor that answers the question of the arguments about a plan.
 #[derive(Clone, Copy)]
 pub(crate) struct AskedVisitor<'r, 'p> {
@@ -50,13 +99,17 @@ pub(crate) struct AskedVisitor<'r, 'p> {
 }
 
 impl PlanVisitor for AskedVisitor<'_, '_> {
-    type Output = Answer;
+    type Output = Answered;
 
-    ghost gives = { λ v p answer. IsPlanAnswer (map rule_text v.rules.now) p (answer_text answer) };
+    ghost gives = { λ v p answered. IsPlanAnswer (map rule_text v.rules.now) p (answered_text answered) };
 
     ghost refuses = { λ v p message. IsPlanRefusal (map rule_text v.rules.now) p message };
 
-    fn visit(&self, alloc: Global, planned: &Planned<'_, '_, '_, '_, '_>) -> Result<Answer, Fault> {
+    fn visit(
+        &self,
+        alloc: Global,
+        planned: &Planned<'_, '_, '_, '_, '_>,
+    ) -> Result<Answered, Fault> {
         planned_answer(alloc, self.rules, planned)
     }
 }

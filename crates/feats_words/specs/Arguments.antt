@@ -1,5 +1,5 @@
 -- The arguments of a command, parsed from the words of a request.
-use Rattle.std.specs.Prelude.{ℕ, List, Bool, Option, None, Some, Result, Ok, Err, flat_map, codes, ok_or, if◌then◌else◌}
+use Rattle.std.specs.Prelude.{ℕ, List, [], ◌∷◌, Bool, true, Option, None, Some, Result, Ok, Err, flat_map, codes, ok_or, if◌then◌else◌}
 use Rattle.std.specs.Str.{bytes_eq}
 use Rattle.std.specs.Option.{option_map_or}
 use Rattle.clap.specs.Words.{Text}
@@ -10,8 +10,8 @@ use Rattle.feats_words.specs.Depths.{depth}
 use Rattle.feats_words.specs.Edges.{edges}
 use Rattle.feats_words.specs.FeatureWords.{words_in}
 use Rattle.feats_words.specs.PlatformWords.{PlatformText, platform_word}
-use Rattle.feats_words.specs.Refusals.{Refusal, bad_platform, bad_resolver, two_resolvers, bad_format, graph_format, each, ◌>>=◌}
-use Rattle.feats_words.specs.Requests.{QuestionText, RequestText, dot}
+use Rattle.feats_words.specs.Refusals.{Refusal, bad_platform, bad_resolver, two_resolvers, bad_format, graph_format, packages_of_every_choice, each, ◌>>=◌}
+use Rattle.feats_words.specs.Requests.{QuestionText, RequestText, check, dot}
 use Rattle.feats_words.specs.declared.command_arguments.Format.{Format}
 use Rattle.feats_words.specs.declared.command_arguments.Format.TheVariants.{Text as text_format, Json as json_format}
 use Rattle.feats_words.specs.declared.edges.Edges.{Edges}
@@ -70,6 +70,11 @@ abbrev pub format_for : QuestionText → Option Text → Result Format Refusal
 format_for dot (Some word) = Err graph_format
 format_for _ word = format word
 
+-- A question about every choice is about all members, so no package is selected.
+abbrev pub all_members : QuestionText → List Text → Result (Unit {0}) Refusal
+all_members (check file true strict) (word ∷ words) = Err packages_of_every_choice
+all_members _ words = Ok tt
+
 abbrev pub arguments : RequestText → Result ArgumentsText Refusal
 arguments r =
     platform r.host >>= λ host.
@@ -78,6 +83,7 @@ arguments r =
     format_for r.question r.format >>= λ form.
     depth r.depth >>= λ limit.
     edges r.edges >>= λ nodes.
+    all_members r.question r.packages >>= λ none.
     Ok (record {
       question = r.question;
       metadata = r.metadata;

@@ -81,7 +81,7 @@ abbrev pub dot_shape : Shape
 dot_shape = command_shape (codes "dot") (edges_rule ∷ [])
 
 abbrev pub check_shape : Shape
-check_shape = command_shape (codes "check") (word_rule (codes "policy") ∷ flag_rule (codes "every-choice") ∷ [])
+check_shape = command_shape (codes "check") (word_rule (codes "policy") ∷ flag_rule (codes "every-choice") ∷ flag_rule (codes "strict") ∷ [])
 
 -- The command about two documents, which are words.
 abbrev pub diff_shape : Shape

@@ -10,8 +10,8 @@ abbrev pub texts : List (Bor Text) → List Text
 texts = map (λ t. t.now)
 
 -- The question that a command asks about a build. `why` also says whether every direct reason is wanted, `duplicates` whether the selected
--- members are planned alone too, and `check`, whose word is the policy's file, whether it asks about every choice. `slim` may name the file of
--- the manifests.
+-- members are planned alone too, and `check`, whose word is the policy's file, whether it asks about every choice and whether each word of a
+-- rule must name something. `slim` may name the file of the manifests.
 pub data QuestionText : Type 0 where
   plan : QuestionText
   why : Text → Bool → QuestionText
@@ -21,7 +21,7 @@ pub data QuestionText : Type 0 where
   duplicates : Bool → QuestionText
   tree : Option Text → QuestionText
   dot : QuestionText
-  check : Text → Bool → QuestionText
+  check : Text → Bool → Bool → QuestionText
   slim : Option Text → QuestionText
 
 -- What a command line asks for.
@@ -73,7 +73,7 @@ question_of name rows =
     else (if bytes_eq name (codes "duplicates") then Some (duplicates (is_given (codes "alone") rows))
     else (if bytes_eq name (codes "tree") then Some (tree (value (codes "invert") rows))
     else (if bytes_eq name (codes "dot") then Some dot
-    else (if bytes_eq name (codes "check") then Some (check (required_value (codes "policy") rows) (is_given (codes "every-choice") rows))
+    else (if bytes_eq name (codes "check") then Some (check (required_value (codes "policy") rows) (is_given (codes "every-choice") rows) (is_given (codes "strict") rows))
     else (if bytes_eq name (codes "diff") then Some plan
     else (if bytes_eq name (codes "slim") then Some (slim (value (codes "member-manifests") rows))
     else None))))))))))

@@ -27,7 +27,7 @@ question_text (question.List word) = list word.now
 question_text (question.Duplicates alone) = duplicates alone
 question_text (question.Tree invert) = tree (option_map (λ t. t.now) invert)
 question_text question.Dot = dot
-question_text (question.Check policy every_choice) = check policy.now every_choice
+question_text (question.Check policy every_choice strict) = check policy.now every_choice strict
 question_text (question.Slim manifests) = slim (option_map (λ t. t.now) manifests)
 
 abbrev pub arguments_text : CommandArguments → ArgumentsText

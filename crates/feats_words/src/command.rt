@@ -366,6 +366,14 @@ fn check_command<'a>(alloc: Global) -> Made<'a>
             "Check each `deny` for every choice of members, features of members, tests and platforms",
         ),
     );
+    let command = with_arg(
+        command,
+        flag(
+            alloc,
+            "strict",
+            "Refuse a policy with a rule whose word names nothing in the document",
+        ),
+    );
     with_options(alloc, command, false)
 }
 

@@ -140,8 +140,25 @@ fn format_for<'a>(question: Question<'_>, word: Option<&'a str>) -> Result<Forma
     }
 }
 
+/// Returns `PackagesOfEveryChoice` if `question` is about every choice, and `packages` aren't empty.
+fn all_members<'a>(question: Question<'_>, packages: &[&str]) -> Result<(), WordsFault<'a>>
+    ensures { Gives (λ u. u) result (spec.all_members (question_text question.entry) (texts packages.now)) }
+{
+    match (question, packages) {
+        (
+            Question::Check {
+                policy: _,
+                every_choice: true,
+                strict: _,
+            },
+            [_, ..],
+        ) => Err(WordsFault::PackagesOfEveryChoice),
+        _ => Ok(()),
+    }
+}
+
 /// Returns the arguments of a request. The error is the first word that can't be read: of the host, of the targets, of the resolver, of
-/// the format, of the depth, of the edges; or `Memory`.
+/// the format, of the depth, of the edges; `PackagesOfEveryChoice`; or `Memory`.
 pub fn arguments<'a>(
     alloc: Global,
     request: Request<'a>,
@@ -154,6 +171,7 @@ pub fn arguments<'a>(
     let format = format_for(request.question, request.format)?;
     let depth = depth_of(request.depth)?;
     let edges = edges_of(request.edges)?;
+    all_members(request.question, &request.packages)?;
     let features = feature_words(alloc, &request.features)?;
     Ok(CommandArguments {
         question: request.question,

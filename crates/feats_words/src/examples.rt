@@ -49,9 +49,10 @@ Example, with the files of `feats plan --help`:
 
 pub(crate) const CHECK_EXAMPLE: &str = "\
 A policy has a rule on each line: `deny FEATURE [on TRIPLE]`, `require FEATURE` or `deny-duplicates SPEC`, each perhaps with `# REASON`.
-Examples, with the files of `feats plan --help`; the second asks whether any choice of features of the members breaks a `deny`:
+A `*` in a name stands for any text.
+Examples, with the files of `feats plan --help`; the second asks whether any choice of features of the members may break a `deny`:
   feats check --metadata metadata.json --host x86_64-unknown-linux-gnu=host.cfg -p server policy.txt
-  feats check --every-choice --metadata metadata.json --host x86_64-unknown-linux-gnu=host.cfg -p server policy.txt
+  feats check --every-choice --metadata metadata.json --host x86_64-unknown-linux-gnu=host.cfg policy.txt
 ";
 
 pub(crate) const SLIM_EXAMPLE: &str = "\

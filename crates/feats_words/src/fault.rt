@@ -16,6 +16,8 @@ pub enum WordsFault<'a> {
     Format(&'a str),
     /// A format is given, and `dot` prints a graph alone.
     GraphFormat,
+    /// The question is about every choice, and `-p` selects packages.
+    PackagesOfEveryChoice,
     /// The word isn't a decimal number.
     Depth(&'a str),
     /// The word is neither `packages` nor `features`.

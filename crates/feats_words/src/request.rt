@@ -16,7 +16,10 @@ pub enum Question<'a> {
     /// Which packages are built?
     Plan,
     /// Why is this feature on? With `all`, every direct reason is wanted.
-    Why { feature: &'a str, all: bool },
+    Why {
+        feature: &'a str,
+        all: bool,
+    },
     /// Why is this feature off?
     WhyNot(&'a str),
     /// Which platform specs hold?
@@ -24,15 +27,26 @@ pub enum Question<'a> {
     /// Which features does the package of this spec have?
     List(&'a str),
     /// What is built several times? With `alone`, where do features differ if each selected member is built alone?
-    Duplicates { alone: bool },
+    Duplicates {
+        alone: bool,
+    },
     /// What depends on what? With `invert`, what depends on the part that this word names?
-    Tree { invert: Option<&'a str> },
+    Tree {
+        invert: Option<&'a str>,
+    },
     /// What depends on what, as a graph?
     Dot,
-    /// Which rules of the policy in this file are broken? With `every_choice`, which `deny` does some choice break?
-    Check { policy: &'a str, every_choice: bool },
+    /// Which rules of the policy in this file are broken? With `every_choice`, which `deny` may some choice break? With `strict`, each word
+    /// must name something.
+    Check {
+        policy: &'a str,
+        every_choice: bool,
+        strict: bool,
+    },
     /// Which edit of a declaration makes the build smaller? The file has the manifests, which say what the members inherit.
-    Slim { manifests: Option<&'a str> },
+    Slim {
+        manifests: Option<&'a str>,
+    },
 }
 
 /// What a command line asks for.
@@ -150,6 +164,7 @@ fn question_of<'a>(name: &str, matches: &ArgMatches<'a>) -> Option<Question<'a>>
         "check" => Some(Question::Check {
             policy: required_value(matches, "policy"),
             every_choice: is_given(matches, "every-choice"),
+            strict: is_given(matches, "strict"),
         }),
         "diff" => Some(Question::Plan),
         "slim" => Some(Question::Slim {

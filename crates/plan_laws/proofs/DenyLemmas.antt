@@ -5,7 +5,6 @@ use Rattle.std.specs.List.{Any, list_any}
 use Rattle.std.specs.Str.{bytes_eq}
 use Rattle.std.proofs.lemmas.List.Folds.{Any-from_list_any, list_any_at}
 use Rattle.cargo_workspaces.specs.Workspaces.{IsWorkspace, PackageText, Text, WorkspaceText}
-use Rattle.plan_names.specs.Faults.{parts_named}
 use Rattle.plan_names.specs.Names.{NamedText}
 use Rattle.plan_rows.specs.declared.side.Side.{Side}
 use Rattle.cargo_plans.specs.plan_units.Units.{UnitText}
@@ -15,10 +14,10 @@ use Rattle.cargo_plans.specs.plan_steps.Plans.{PlanText}
 use Rattle.cargo_plans.specs.Plans.{IsPlanOf, WordsText}
 use Rattle.plan_laws.specs.Widening.{IsCovered, IsOnIn, IsWidest, WidestTurnsAllOn}
 use Rattle.policy_checks.specs.plan_whys.Steps.{SpotText}
-use Rattle.policy_checks.specs.Builds.{BuildText, built_for, has_side, is_built_for, is_platform, triple_of}
+use Rattle.policy_checks.specs.Builds.{BuildText, built_for, has_side, is_built_for, is_built_on, is_every, is_platform, triple_of}
 use Rattle.policy_checks.specs.Found.{denied, denied_at, denied_for, denied_on, kept, no_platform, of_meaning}
-use Rattle.policy_checks.specs.Meanings.{MeaningText, meaning_in, meaning_of, one_of, these}
-use Rattle.policy_checks.specs.Spots.{is_spot_on, is_spot_on_for, on_both_sides, spots_on, spots_on_for}
+use Rattle.policy_checks.specs.Meanings.{MeaningText, meaning_among, meaning_in, one_of, these}
+use Rattle.policy_checks.specs.Spots.{counts, is_spot_on, is_spot_on_for, on_both_sides, spots_on, spots_on_for}
 use Rattle.plan_laws.specs.EveryChoice.{AreBuilds, HasNoMoreBuilt, HasNoMoreOn, NoChoiceBreaksDeny, NoChoiceBreaksDenyForPlatform}
 
 -- a test that passes less keeps nothing where the other keeps nothing
@@ -46,12 +45,7 @@ fewer f g h m n same e = go n (sym (ap (of_meaning (λ parts. denied_at (g parts
 
 -- a word means the same in both builds
 same_meaning : (c b : BuildText) (word : Text) → HasNoMoreOn c b → meaning_in b word ≡ meaning_in c word
-same_meaning c b word h = ap (λ (x : List PackageText). meaning_of (parts_named x b.selected word)) (sym h.packages) ∙ ap (λ (x : List ℕ). meaning_of (parts_named c.packages x word)) (sym h.selected)
-
-pub stays_kept : (c b : BuildText) (word : Text) → HasNoMoreOn c b → denied b word ≡ kept → denied c word ≡ kept
-stays_kept c b word h e =
-    fewer (spots_on c) (spots_on b) (λ parts none. filter_less (is_spot_on c) (is_spot_on b) (λ s. h.on s.side s.number s.label) (flat_map on_both_sides parts) none)
-    (meaning_in b word) (meaning_in c word) (same_meaning c b word h) e
+same_meaning c b word h = ap (λ (x : List PackageText). meaning_among x b.selected word) (sym h.packages) ∙ ap (λ (x : List ℕ). meaning_among c.packages x word) (sym h.selected)
 
 both : (a b : Bool) → (a && b) ≡ true → (a ≡ true) × (b ≡ true)
 both true b h = (refl, h)
@@ -59,6 +53,18 @@ both false b h = cc
 
 and_true : {a b : Bool} → a ≡ true → b ≡ true → (a && b) ≡ true
 and_true {a} {b} h k = ap (λ x. x && b) h ∙ k
+
+-- what counts is on, and for every choice all that is on counts
+counts_on : (c : BuildText) (s : SpotText) → counts c s ≡ true → is_spot_on c s ≡ true
+counts_on c s h = (both (is_spot_on c s) _ h).0
+
+on_counts : (b : BuildText) (s : SpotText) → is_every b.judged ≡ true → is_spot_on b s ≡ true → counts b s ≡ true
+on_counts b s wide h = and_true h (ap (λ x. x || is_built_on b s.side s.number) wide)
+
+pub stays_kept : (c b : BuildText) (word : Text) → HasNoMoreOn c b → IsTrue (is_every b.judged) → denied b word ≡ kept → denied c word ≡ kept
+stays_kept c b word h wide e =
+    fewer (spots_on c) (spots_on b) (λ parts none. filter_less (counts c) (counts b) (λ s is. on_counts b s wide (h.on s.side s.number s.label (counts_on c s is))) (flat_map on_both_sides parts) none)
+    (meaning_in b word) (meaning_in c word) (same_meaning c b word h) e
 
 -- a number is that of a unit that passes
 built_is : (n : ℕ) (f : UnitText → Bool) (units : List UnitText) → list_any (nat_eq n) (map (λ (u : UnitText). u.number) (filter f units)) ≡ list_any (λ (u : UnitText). f u && nat_eq n u.number) units
@@ -122,15 +128,16 @@ no_more w words widest p q law is wide covered small large c b builds = record {
 }
 
 pub no_choice : WidestTurnsAllOn → NoChoiceBreaksDeny
-no_choice law w words widest p q is wide covered small large c b builds word e = stays_kept c b word (no_more w words widest p q law is wide covered small large c b builds) e
+no_choice law w words widest p q is wide covered small large c b builds word e = stays_kept c b word (no_more w words widest p q law is wide covered small large c b builds) builds.is_every e
 
--- what is kept everywhere is kept for a platform
-kept_for : (c : BuildText) (word triple : Text) → is_platform c triple ≡ true → denied c word ≡ kept → denied_on c word triple ≡ kept
-kept_for c word triple known e =
+-- what no choice breaks is kept for a platform
+fewer_for : (c b : BuildText) (word triple : Text) → HasNoMoreOn c b → IsTrue (is_every b.judged) → is_platform c triple ≡ true → denied b word ≡ kept → denied_on c word triple ≡ kept
+fewer_for c b word triple h wide known e =
     ap (λ x. cond x (denied_for c word triple) (no_platform triple)) known
-    ∙ fewer (spots_on_for c triple) (spots_on c) (λ parts none. filter_less (is_spot_on_for c triple) (is_spot_on c) (λ s h. (both (is_spot_on c s) _ h).0) (flat_map on_both_sides parts) none)
-    (meaning_in c word) (meaning_in c word) refl e
+    ∙ fewer (spots_on_for c triple) (spots_on b)
+    (λ parts none. filter_less (is_spot_on_for c triple) (counts b) (λ s is. on_counts b s wide (h.on s.side s.number s.label (both (is_spot_on c s) _ is).0)) (flat_map on_both_sides parts) none)
+    (meaning_in b word) (meaning_in c word) (same_meaning c b word h) e
 
 pub no_choice_on : WidestTurnsAllOn → NoChoiceBreaksDenyForPlatform
 no_choice_on law w words widest p q is wide covered small large c b builds word triple known e =
-    kept_for c word triple known (no_choice law w words widest p q is wide covered small large c b builds word e)
+    fewer_for c b word triple (no_more w words widest p q law is wide covered small large c b builds) builds.is_every known e

@@ -1,4 +1,5 @@
 pub mod Among
 pub mod Cuts
 pub mod Lists
+pub mod Matching
 pub mod Once

@@ -1,4 +1,5 @@
 pub mod Faults
+pub mod Matches
 pub mod Names
 pub mod Suggestions
 pub mod Views

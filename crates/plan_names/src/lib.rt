@@ -3,6 +3,7 @@
 
 mod fault;
 mod marks;
+mod matches;
 mod named;
 mod near;
 mod nearest_parts;
@@ -12,6 +13,7 @@ mod word_cuts;
 mod words;
 
 pub use fault::NameFault;
+pub use matches::{packages_matching, parts_matching};
 pub use named::{Named, Part};
 pub use nearest_parts::suggestions;
 pub use words::{package_named, parts_named};

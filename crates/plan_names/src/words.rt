@@ -17,7 +17,7 @@ use plan_words::packages_of_word;
 use std::alloc::{AllocError, Global};
 
 /// Returns the packages `numbers`, themselves.
-fn wholes<'w>(alloc: Global, numbers: &[usize]) -> Result<Vec<Named<'w>>, AllocError>
+pub(crate) fn wholes<'w>(alloc: Global, numbers: &[usize]) -> Result<Vec<Named<'w>>, AllocError>
     ensures { IfOk result (λ named. map named_text named.items ≡ map (λ k. spec.of_package k spec.whole) numbers.now) }
 {
     let mut named = Vec::with_capacity(alloc, numbers.len())?;
@@ -55,7 +55,7 @@ fn parts_of_cut<'w>(
 }
 
 /// Returns the parts that `name` means in the packages `selected`, else in all.
-fn parts_of_name<'w>(
+pub(crate) fn parts_of_name<'w>(
     alloc: Global,
     workspace: &'w Workspace<'_>,
     selected: &[usize],

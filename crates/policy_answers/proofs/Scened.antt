@@ -10,12 +10,14 @@ use Rattle.feats_files.specs.Messages.{Says}
 use Rattle.feats_files.specs.declared.fault.Fault.{Fault}
 use Rattle.plan_messages.specs.Messages.{plan_message}
 use Rattle.cargo_plans.specs.plan_steps.Plans.{PlanText}
-use Rattle.policy_answers.specs.Answers.{AreScenesOf, IsAnswerWith, IsRefusalWith, no_check, no_plan}
+use Rattle.policy_answers.specs.Answers.{AreScenesOf, AreWider, IsAnswerWith, IsRefusalWith, no_check, no_plan}
 use Rattle.policy_answers.specs.Broken.{IsPolicyText, IsRulesRefusal}
 use Rattle.policy_answers.specs.QuestionViews.{printed_text}
 use Rattle.policy_answers.specs.Questions.{QuestionText}
-use Rattle.policy_answers.specs.Scenes.{SceneText, ScenesText, scene_of, widely, widest_words}
+use Rattle.policy_answers.specs.Scenes.{IsSceneBy, SceneText, ScenesText, all_words, scene_of, widest_words}
 use Rattle.policy_answers.specs.declared.question.PolicyText.{PolicyText}
+use Rattle.policy_checks.specs.declared.judged.Judged.{Judged}
+use Rattle.policy_checks.specs.declared.judged.Judged.TheVariants.{ForEveryChoice, WithAll}
 use Rattle.policy_answers.proofs.Refusals.{says_more}
 
 -- what follows from an error
@@ -31,13 +33,24 @@ module _ (asked : QuestionText) (here : SceneText) (every : Option (Text → Boo
   unchecked h = err_more r (IsRulesRefusal asked scenes) (IsRefusalWith here asked every) (λ m says. no_check scenes are says) h
 
 -- the scenes without a choice
-pub alone : (asked : QuestionText) (here : SceneText) → AreScenesOf here asked None (record { here = here; widest = None })
-alone asked here = record { is_here = refl; is_widest = tt }
+pub alone : (asked : QuestionText) (here : SceneText) → AreScenesOf here asked None (record { here = here; wide = None })
+alone asked here = record { is_here = refl; are_wide = tt }
 
 -- and for every choice
-module _ (w : WorkspaceText) (selected : List ℕ) (asked : QuestionText) (words wide : WordsText) (p : PlanText) (every : Text → Bool) (is_wide : wide ≡ widest_words every words) where
-  pub with_widest : (plan : PlanText) → IsPlanOf w wide plan → AreScenesOf (scene_of w selected asked words p) asked (Some every) (widely (scene_of w selected asked words p) (scene_of w selected asked wide plan))
-  with_widest plan is = record { is_here = refl; is_widest = (plan, subst (λ z. IsPlanOf w z plan) is_wide is, ap (λ z. scene_of w selected asked z plan) is_wide) }
+pub with_wide : (asked : QuestionText) (here all widest : SceneText) (every : Text → Bool) → IsSceneBy here asked (all_words every here.words) WithAll all
+    → IsSceneBy here asked (widest_words every here.words) ForEveryChoice widest
+    → AreScenesOf here asked (Some every) (record { here = here; wide = Some (record { all = all; widest = widest }) })
+with_wide asked here all widest every is_all is_widest = record { is_here = refl; are_wide = (is_all, is_widest) }
 
-  pub unplanned : (fault : PlanFault) (f : Fault) → IsRefusal w wide fault → Says f (λ m. m ≡ plan_message w.packages fault) → Says f (IsRefusalWith (scene_of w selected asked words p) asked (Some every))
-  unplanned fault f is h = says_more f (λ m. m ≡ plan_message w.packages fault) (IsRefusalWith (scene_of w selected asked words p) asked (Some every)) (λ m says. no_plan every refl fault (subst (λ z. IsRefusal w z fault) is_wide is) says) h
+-- the scene of a plan of words that are equal
+pub scene_by_words : (asked : QuestionText) (here : SceneText) (words given : WordsText) (plan : PlanText) (judged : Judged) → given ≡ words → IsPlanOf here.workspace given plan
+    → IsSceneBy here asked words judged (scene_of here.workspace here.build.selected asked given plan judged)
+scene_by_words asked here words given plan judged same is = record {
+  plan = plan;
+  is_plan = subst (λ z. IsPlanOf here.workspace z plan) same is;
+  is_scene = ap (λ z. scene_of here.workspace here.build.selected asked z plan judged) same;
+}
+
+pub unplanned : (asked : QuestionText) (here : SceneText) (every : Text → Bool) (wider : WordsText) (fault : PlanFault) (f : Fault) → AreWider here every wider → IsRefusal here.workspace wider fault
+    → Says f (λ m. m ≡ plan_message here.workspace.packages fault) → Says f (IsRefusalWith here asked (Some every))
+unplanned asked here every wider fault f are is h = says_more f (λ m. m ≡ plan_message here.workspace.packages fault) (IsRefusalWith here asked (Some every)) (λ m says. no_plan every refl wider are fault is says) h

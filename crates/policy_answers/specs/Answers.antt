@@ -1,5 +1,5 @@
 -- The answer to a question about a policy.
-use Rattle.std.specs.Prelude.{◌≡◌, Bool, Option, Some}
+use Rattle.std.specs.Prelude.{◌≡◌, ◌⊎◌, Bool, Option, Some}
 use Rattle.cargo_plans.specs.Plans.{AfterWords, WordsText}
 use Rattle.cargo_plans.specs.Refusals.{IsRefusal}
 use Rattle.cargo_plans.specs.declared.fault.PlanFault.{PlanFault}
@@ -8,12 +8,13 @@ use Rattle.plan_messages.specs.Messages.{plan_message}
 use Rattle.cargo_plans.specs.plan_steps.Plans.{PlanText}
 use Rattle.policy_answers.specs.Broken.{IsPolicyText, IsRulesRefusal}
 use Rattle.policy_answers.specs.Questions.{PrintedText, QuestionText}
-use Rattle.policy_answers.specs.Scenes.{IsWidestScene, SceneText, ScenesText, scene_of, widest_words}
+use Rattle.policy_answers.specs.Scenes.{AreWideScenes, SceneText, ScenesText, all_words, scene_of, widest_words}
+use Rattle.policy_checks.specs.declared.judged.Judged.TheVariants.{InBuild}
 
--- The rules are judged in this scene of the build; for every choice, also in that of the widest words.
+-- The rules are judged in this scene of the build; for every choice, denies are judged in those of wider words.
 pub record AreScenesOf (here : SceneText) (asked : QuestionText) (every : Option (Text → Bool)) (scenes : ScenesText) : Type 0 where
   pub is_here : scenes.here ≡ here
-  pub is_widest : IsWidestScene here asked every scenes.widest
+  pub are_wide : AreWideScenes here asked every scenes.wide
 
 -- Exactly the rules that are broken in the scenes are printed.
 pub record IsAnswerWith (here : SceneText) (asked : QuestionText) (every : Option (Text → Bool)) (printed : PrintedText) : Type 0 where
@@ -21,18 +22,22 @@ pub record IsAnswerWith (here : SceneText) (asked : QuestionText) (every : Optio
   pub are_scenes : AreScenesOf here asked every scenes
   pub is_text : IsPolicyText asked scenes printed
 
--- The widest words have no plan, or a rule can't be checked.
+-- These words are wider, for every choice.
+abbrev pub AreWider : SceneText → (Text → Bool) → WordsText → Type 0
+AreWider here holds words = (words ≡ all_words holds here.words) ⊎ (words ≡ widest_words holds here.words)
+
+-- Wider words have no plan, or a rule can't be checked.
 pub data IsRefusalWith (here : SceneText) (asked : QuestionText) (every : Option (Text → Bool)) (message : Text) : Type 0 where
   no_plan :
-      (holds : Text → Bool) → every ≡ Some holds → (fault : PlanFault) → IsRefusal here.workspace (widest_words holds here.words) fault
+      (holds : Text → Bool) → every ≡ Some holds → (wider : WordsText) → AreWider here holds wider → (fault : PlanFault) → IsRefusal here.workspace wider fault
       → message ≡ plan_message here.workspace.packages fault → IsRefusalWith here asked every message
   no_check : (scenes : ScenesText) → AreScenesOf here asked every scenes → IsRulesRefusal asked scenes message → IsRefusalWith here asked every message
 
 -- THE ANSWER about a build, with this plan of the words.
 abbrev pub IsPolicyAnswer : WorkspaceText → WordsText → PlanText → QuestionText → PrintedText → Type 0
-IsPolicyAnswer w words plan asked printed = AfterWords w words (λ chosen. IsAnswerWith (scene_of w chosen.selected asked words plan) asked asked.every printed)
+IsPolicyAnswer w words plan asked printed = AfterWords w words (λ chosen. IsAnswerWith (scene_of w chosen.selected asked words plan InBuild) asked asked.every printed)
 
 -- THE MESSAGE why there is none.
 abbrev pub IsPolicyRefusal : WorkspaceText → WordsText → PlanText → QuestionText → Text → Type 0
 IsPolicyRefusal w words plan asked message =
-    AfterWords w words (λ chosen. IsRefusalWith (scene_of w chosen.selected asked words plan) asked asked.every message)
+    AfterWords w words (λ chosen. IsRefusalWith (scene_of w chosen.selected asked words plan InBuild) asked asked.every message)

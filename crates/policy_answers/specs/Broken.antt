@@ -54,7 +54,7 @@ AreFound s spots founds = AllZip (AnswersBy s.workspace s.words s.build.plan.on)
 pub record IsBrokenText (asked : QuestionText) (b : BrokenText) (text : Text) : Type 0 where
   pub founds : List (Option (List WhyText))
   pub are_found : AreFound b.scene b.verdict.spots founds
-  pub is_text : text ≡ rule_text asked b.scene.workspace.packages b.scene.words b.verdict.rule founds
+  pub is_text : text ≡ rule_text asked b.scene.build.judged b.scene.workspace.packages b.scene.words b.verdict.rule founds
 
 -- The texts of broken rules, one after the other.
 abbrev pub ArePrinted : QuestionText → List BrokenText → Text → Type 0

@@ -3,5 +3,7 @@ pub mod Broken
 pub mod QuestionViews
 pub mod Questions
 pub mod Scenes
+pub mod WarningViews
+pub mod Warnings
 pub mod Whys
 pub mod inner

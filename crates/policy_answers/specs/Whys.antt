@@ -10,6 +10,7 @@ use Rattle.plan_whys.specs.Steps.{WhyText}
 use Rattle.policies.specs.Rules.{RuleText}
 use Rattle.policy_lines.specs.Lines.{verdict_lines}
 use Rattle.policy_lines.specs.Objects.{rule_members}
+use Rattle.policy_checks.specs.declared.judged.Judged.{Judged}
 use Rattle.policy_answers.specs.Questions.{QuestionText}
 use Rattle.why_lines.specs.Lines.{why_lines}
 use Rattle.why_lines.specs.Objects.{step_objects}
@@ -51,10 +52,10 @@ found_array packages words (Some steps) = steps_array packages words steps
 abbrev pub whys_member : List PackageText → WordsText → List (Option (List WhyText)) → List Token
 whys_member packages words founds = key (codes "whys") ∷ begin_array ∷ (flat_map (found_array packages words) founds ++ end_array ∷ [])
 
-abbrev pub text_by : Format → Text → List PackageText → WordsText → RuleText → List (Option (List WhyText)) → Text
-text_by format.Text file packages words r founds = verdict_lines file r (whys_lines packages words founds)
-text_by format.Json file packages words r founds = object_line (begin_object ∷ (rule_members r ++ whys_member packages words founds))
+abbrev pub text_by : Format → Text → Judged → List PackageText → WordsText → RuleText → List (Option (List WhyText)) → Text
+text_by format.Text file judged packages words r founds = verdict_lines file judged r (whys_lines packages words founds)
+text_by format.Json file judged packages words r founds = object_line (begin_object ∷ (rule_members judged r ++ whys_member packages words founds))
 
--- The text of a broken rule, with these explanations of what breaks it.
-abbrev pub rule_text : QuestionText → List PackageText → WordsText → RuleText → List (Option (List WhyText)) → Text
-rule_text asked packages words r founds = text_by asked.format asked.file packages words r founds
+-- The text of a broken rule that is judged there, with these explanations of what breaks it.
+abbrev pub rule_text : QuestionText → Judged → List PackageText → WordsText → RuleText → List (Option (List WhyText)) → Text
+rule_text asked judged packages words r founds = text_by asked.format asked.file judged packages words r founds

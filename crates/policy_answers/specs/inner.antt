@@ -1,3 +1,4 @@
 -- Definitions that only contracts of private functions use.
+pub mod Firsts
 pub mod Grown
 pub mod PlannedViews

@@ -9,10 +9,13 @@ ghost use Rattle.cargo_plans.specs.plan_steps.PlanViews.{plan_text};
 ghost use Rattle.policy_answers.specs.Answers as spec;
 ghost use Rattle.policy_answers.specs.Broken.{IsPolicyText, IsRulesRefusal};
 ghost use Rattle.policy_answers.specs.QuestionViews.{printed_text, question_text};
-ghost use Rattle.policy_answers.specs.Scenes.{IsScene, scene_of, widely};
-ghost use Rattle.policy_answers.specs.inner.PlannedViews.{scene_by};
+ghost use Rattle.policy_answers.specs.Scenes.{IsScene, IsSceneBy, scene_of};
+ghost use Rattle.policy_answers.specs.Scenes as scenes;
+ghost use Rattle.policy_answers.specs.inner.Grown.{AreWide};
+ghost use Rattle.policy_answers.specs.inner.PlannedViews.{scene_by, scenes_by, wide_by};
+ghost use Rattle.policy_checks.specs.declared.judged.Judged.TheVariants.{InBuild, WithAll};
 
-use crate::planned::Planned;
+use crate::planned::{Planned, Wide, all_words};
 use crate::question::{PolicyQuestion, PolicyText};
 use crate::rules::printed_rules;
 use cargo_plans::{Plan, PlanWords, plan};
@@ -22,33 +25,61 @@ use plan_messages::plan_refused;
 use plan_platforms::HeldSpecs;
 use plan_widenings::{Widening, widened};
 use plan_words::choose;
+use policy_checks::Judged;
 use std::alloc::Global;
 
-/// Returns the answer for every choice. `widest` is the plan of `wide`, the widest words.
+/// Returns the answer for every choice, by the plans of `wide`.
 fn printed_with(
     alloc: Global,
     asked: PolicyQuestion<'_, '_, '_, '_>,
     workspace: &Workspace<'_>,
     selected: &[usize],
     here: Planned<'_, '_, '_, '_, '_>,
-    wide: &PlanWords<'_, '_, HeldSpecs<'_>>,
-    widest: &Plan<'_>,
+    wide: Wide<'_, '_, '_, '_, '_>,
 ) -> Result<PolicyText, Fault>
     requires here { IsScene (scene_by (workspace_text workspace.now) selected.now (question_text asked) here) }
-    requires widest { IsPlanOf (workspace_text workspace.now) (words_text holds_on wide.now) (plan_text widest.now) }
-    ensures text { IfOk result (λ printed. IsPolicyText (question_text asked.entry) (widely (scene_by (workspace_text workspace.now) selected.now (question_text asked.entry) here.entry)
-        (scene_of (workspace_text workspace.now) selected.now (question_text asked.entry) (words_text holds_on wide.now) (plan_text widest.now))) (printed_text printed)) }
-    ensures fault { IfErr result (λ fault. Says fault (IsRulesRefusal (question_text asked.entry) (widely (scene_by (workspace_text workspace.now) selected.now (question_text asked.entry) here.entry)
-        (scene_of (workspace_text workspace.now) selected.now (question_text asked.entry) (words_text holds_on wide.now) (plan_text widest.now))))) }
+    requires wide { AreWide (wide_by (workspace_text workspace.now) selected.now (question_text asked) wide) }
+    ensures text { IfOk result (λ printed. IsPolicyText (question_text asked.entry) (scenes_by (workspace_text workspace.now) selected.now (question_text asked.entry) here.entry (Some wide.entry)) (printed_text printed)) }
+    ensures fault { IfErr result (λ fault. Says fault (IsRulesRefusal (question_text asked.entry) (scenes_by (workspace_text workspace.now) selected.now (question_text asked.entry) here.entry (Some wide.entry)))) }
 {
-    let planned = Planned {
-        words: wide,
-        plan: widest,
-    };
-    printed_rules(alloc, asked, workspace, selected, here, Some(planned))
+    printed_rules(alloc, asked, workspace, selected, here, Some(wide))
 }
 
-/// Returns the answer for every choice. Each platform spec holds on the platform `every`. The function makes the plan of the widest words.
+/// Returns the answer for every choice. `all` is the plan with all members, features and tests, and each platform spec holds on the platform
+/// `every`. The function makes the plan of the widest words.
+fn answer_with_all<'w, 'n, 's>(
+    alloc: Global,
+    asked: PolicyQuestion<'_, '_, '_, '_>,
+    workspace: &'w Workspace<'_>,
+    selected: &[usize],
+    here: Planned<'_, '_, 'w, 'n, 's>,
+    all: Planned<'_, '_, 'w, 'n, 's>,
+    every: &'n HeldSpecs<'s>,
+) -> Result<PolicyText, Fault>
+    requires here { IsScene (scene_by (workspace_text workspace.now) selected.now (question_text asked) here) }
+    requires all { IsSceneBy (scene_by (workspace_text workspace.now) selected.now (question_text asked) here) (question_text asked) (scenes.all_words (holds_on every.now) (words_text holds_on here.words.now)) WithAll (scene_by (workspace_text workspace.now) selected.now (question_text asked) all) }
+    ensures answer { IfOk result (λ printed. spec.IsAnswerWith (scene_by (workspace_text workspace.now) selected.now (question_text asked.entry) here.entry) (question_text asked.entry) (Some (holds_on every.now)) (printed_text printed)) }
+    ensures fault { IfErr result (λ fault. Says fault (spec.IsRefusalWith (scene_by (workspace_text workspace.now) selected.now (question_text asked.entry) here.entry) (question_text asked.entry) (Some (holds_on every.now)))) }
+{
+    let words = widened(here.words, Widening::Together, every);
+    match plan(alloc, workspace, &words) {
+        Ok(plan) => {
+            let widest = Planned {
+                words: &words,
+                plan: &plan,
+                judged: Judged::ForEveryChoice,
+            };
+            let wide = Wide { all, widest };
+            let printed = printed_with(alloc, asked, workspace, selected, here, wide);
+            drop(plan);
+            printed
+        }
+        Err(fault) => Err(plan_refused(alloc, workspace, fault)),
+    }
+}
+
+/// Returns the answer for every choice. Each platform spec holds on the platform `every`. The function makes the plan with all members,
+/// features and tests, and then that of the widest words.
 fn answer_widely<'w, 'n, 's>(
     alloc: Global,
     asked: PolicyQuestion<'_, '_, '_, '_>,
@@ -61,11 +92,16 @@ fn answer_widely<'w, 'n, 's>(
     ensures answer { IfOk result (λ printed. spec.IsAnswerWith (scene_by (workspace_text workspace.now) selected.now (question_text asked.entry) here.entry) (question_text asked.entry) (Some (holds_on every.now)) (printed_text printed)) }
     ensures fault { IfErr result (λ fault. Says fault (spec.IsRefusalWith (scene_by (workspace_text workspace.now) selected.now (question_text asked.entry) here.entry) (question_text asked.entry) (Some (holds_on every.now)))) }
 {
-    let wide = widened(here.words, Widening::Together, every);
-    match plan(alloc, workspace, &wide) {
-        Ok(widest) => {
-            let printed = printed_with(alloc, asked, workspace, selected, here, &wide, &widest);
-            drop(widest);
+    let words = all_words(here.words, every);
+    match plan(alloc, workspace, &words) {
+        Ok(plan) => {
+            let all = Planned {
+                words: &words,
+                plan: &plan,
+                judged: Judged::WithAll,
+            };
+            let printed = answer_with_all(alloc, asked, workspace, selected, here, all, every);
+            drop(plan);
             printed
         }
         Err(fault) => Err(plan_refused(alloc, workspace, fault)),
@@ -82,10 +118,14 @@ fn answer_about<'w, 'n, 's>(
     plan: &Plan<'w>,
 ) -> Result<PolicyText, Fault>
     requires { IsPlanOf (workspace_text workspace.now) (words_text holds_on words.now) (plan_text plan.now) }
-    ensures answer { IfOk result (λ printed. spec.IsAnswerWith (scene_of (workspace_text workspace.now) selected.now (question_text asked.entry) (words_text holds_on words.now) (plan_text plan.now)) (question_text asked.entry) (question_text asked.entry).every (printed_text printed)) }
-    ensures fault { IfErr result (λ fault. Says fault (spec.IsRefusalWith (scene_of (workspace_text workspace.now) selected.now (question_text asked.entry) (words_text holds_on words.now) (plan_text plan.now)) (question_text asked.entry) (question_text asked.entry).every)) }
+    ensures answer { IfOk result (λ printed. spec.IsAnswerWith (scene_of (workspace_text workspace.now) selected.now (question_text asked.entry) (words_text holds_on words.now) (plan_text plan.now) InBuild) (question_text asked.entry) (question_text asked.entry).every (printed_text printed)) }
+    ensures fault { IfErr result (λ fault. Says fault (spec.IsRefusalWith (scene_of (workspace_text workspace.now) selected.now (question_text asked.entry) (words_text holds_on words.now) (plan_text plan.now) InBuild) (question_text asked.entry) (question_text asked.entry).every)) }
 {
-    let here = Planned { words, plan };
+    let here = Planned {
+        words,
+        plan,
+        judged: Judged::InBuild,
+    };
     match asked.every {
         Some(every) => answer_widely(alloc, asked, workspace, selected, here, every),
         None => printed_rules(alloc, asked, workspace, selected, here, None),
@@ -93,9 +133,10 @@ fn answer_about<'w, 'n, 's>(
 }
 
 /// Returns the broken rules of a policy in `plan`, which is that of `words`: each with what breaks it, and why that is on. For every choice
-/// each `deny` is judged in the plan of the widest words instead, for all platforms. If nothing is broken then, the build keeps the other
-/// rules, and by the law `no_choice_breaks_a_deny` no choice of members, features, tests and platforms breaks a `deny`. Returns `Refused` if
-/// the widest words have no plan, or else with the first rule that can't be checked; `Memory` if an allocation fails.
+/// each `deny` is judged in the plan of the widest words instead, or if it is for one platform, in that of all members, features and tests for
+/// the platforms of `words`. If nothing is broken then, the build keeps the other rules, and by the law `no_choice_breaks_a_deny` no choice of
+/// members, features of members, tests and platforms breaks a `deny` for all platforms. Returns `Refused` if the wider words have no plan, or
+/// else with the first rule that can't be checked; `Memory` if an allocation fails.
 pub fn policy_answer<'w, 'n, 's>(
     alloc: Global,
     asked: PolicyQuestion<'_, '_, 'n, 's>,

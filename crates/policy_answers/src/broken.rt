@@ -17,29 +17,27 @@ use crate::lines::rule_lines;
 use crate::objects::rule_object;
 use crate::planned::Planned;
 use crate::question::PolicyQuestion;
-use cargo_plans::PlanWords;
 use cargo_workspaces::Workspace;
 use feats_words::Format;
-use plan_platforms::HeldSpecs;
 use plan_whys::{WhyStep, why_each};
 use policies::Rule;
 use policy_checks::Verdict;
 use std::alloc::{AllocError, Global};
 
-/// Returns the text of the broken rule `rule`, with `founds`, which explain what breaks it.
+/// Returns the text of the rule `rule`, which the plan of `planned` breaks, with `founds`, which explain what breaks it.
 fn text_of_rule(
     alloc: Global,
     asked: PolicyQuestion<'_, '_, '_, '_>,
     workspace: &Workspace<'_>,
-    words: &PlanWords<'_, '_, HeldSpecs<'_>>,
+    planned: Planned<'_, '_, '_, '_, '_>,
     rule: Rule<'_>,
     founds: &[Option<Vec<WhyStep<'_>>>],
 ) -> Result<Vec<u8>, AllocError>
-    ensures { IfOk result (λ text. text.items ≡ spec.rule_text (question_text asked.entry) (workspace_text workspace.now).packages (words_text holds_on words.now) (rule_text rule.entry) (map found_text founds.now)) }
+    ensures { IfOk result (λ text. text.items ≡ spec.rule_text (question_text asked.entry) planned.entry.judged (workspace_text workspace.now).packages (words_text holds_on planned.entry.words.now) (rule_text rule.entry) (map found_text founds.now)) }
 {
     match asked.format {
-        Format::Text => rule_lines(alloc, asked.file, workspace, words, rule, founds),
-        Format::Json => rule_object(alloc, workspace, words, rule, founds),
+        Format::Text => rule_lines(alloc, asked.file, workspace, planned, rule, founds),
+        Format::Json => rule_object(alloc, workspace, planned, rule, founds),
     }
 }
 
@@ -62,14 +60,7 @@ fn text_of_verdict(
         planned.plan,
         &verdict.spots,
     )?;
-    text_of_rule(
-        alloc,
-        asked,
-        workspace,
-        planned.words,
-        verdict.rule,
-        &founds,
-    )
+    text_of_rule(alloc, asked, workspace, planned, verdict.rule, &founds)
 }
 
 /// Appends the text of `verdict`, which is about the plan of `planned`.

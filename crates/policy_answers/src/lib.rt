@@ -9,6 +9,8 @@ mod planned;
 mod question;
 mod rules;
 mod settings;
+mod warnings;
 
 pub use answers::policy_answer;
 pub use question::{PolicyQuestion, PolicyText};
+pub use warnings::{PolicyWords, policy_warnings};

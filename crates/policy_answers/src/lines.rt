@@ -8,6 +8,7 @@ ghost use Rattle.policies.specs.Views.{rule_text};
 ghost use Rattle.policy_answers.specs.Whys as spec;
 ghost use Rattle.policy_lines.specs.Lines.{verdict_lines};
 
+use crate::planned::Planned;
 use crate::settings::settings_of;
 use cargo_plans::PlanWords;
 use cargo_workspaces::Workspace;
@@ -82,19 +83,19 @@ fn lines_of(
     Ok(text)
 }
 
-/// Returns the lines about the broken rule `rule` of `file`, and those of `founds`, which explain what breaks it.
+/// Returns the lines about the rule `rule` of `file`, which the plan of `planned` breaks, and those of `founds`, which explain what breaks it.
 pub(crate) fn rule_lines(
     alloc: Global,
     file: &str,
     workspace: &Workspace<'_>,
-    words: &PlanWords<'_, '_, HeldSpecs<'_>>,
+    planned: Planned<'_, '_, '_, '_, '_>,
     rule: Rule<'_>,
     founds: &[Option<Vec<WhyStep<'_>>>],
 ) -> Result<Vec<u8>, AllocError>
-    ensures { IfOk result (λ text. text.items ≡ verdict_lines file.now (rule_text rule.entry) (spec.whys_lines (workspace_text workspace.now).packages (words_text holds_on words.now) (map found_text founds.now))) }
+    ensures { IfOk result (λ text. text.items ≡ verdict_lines file.now planned.entry.judged (rule_text rule.entry) (spec.whys_lines (workspace_text workspace.now).packages (words_text holds_on planned.entry.words.now) (map found_text founds.now))) }
 {
-    let whys = lines_of(alloc, workspace, words, founds)?;
+    let whys = lines_of(alloc, workspace, planned.words, founds)?;
     let mut text = Vec::new(alloc);
-    push_verdict(alloc, &mut text, file, rule, &whys)?;
+    push_verdict(alloc, &mut text, file, planned.judged, rule, &whys)?;
     Ok(text)
 }

@@ -10,6 +10,7 @@ ghost use Rattle.policies.specs.Views.{rule_text};
 ghost use Rattle.policy_answers.specs.Whys as spec;
 ghost use Rattle.policy_lines.specs.Objects.{rule_members};
 
+use crate::planned::Planned;
 use crate::settings::settings_of;
 use cargo_plans::PlanWords;
 use cargo_workspaces::Workspace;
@@ -98,19 +99,19 @@ fn write_whys(
     writer.end_array()
 }
 
-/// Returns the line with the object of the broken rule `rule`, and with `founds`, which explain what breaks it.
+/// Returns the line with the object of the rule `rule`, which the plan of `planned` breaks, and with `founds`, which explain what breaks it.
 pub(crate) fn rule_object(
     alloc: Global,
     workspace: &Workspace<'_>,
-    words: &PlanWords<'_, '_, HeldSpecs<'_>>,
+    planned: Planned<'_, '_, '_, '_, '_>,
     rule: Rule<'_>,
     founds: &[Option<Vec<WhyStep<'_>>>],
 ) -> Result<Vec<u8>, AllocError>
-    ensures { IfOk result (λ line. line.items ≡ object_line (begin_object ∷ (rule_members (rule_text rule.entry)
-        ++ spec.whys_member (workspace_text workspace.now).packages (words_text holds_on words.now) (map found_text founds.now)))) }
+    ensures { IfOk result (λ line. line.items ≡ object_line (begin_object ∷ (rule_members planned.entry.judged (rule_text rule.entry)
+        ++ spec.whys_member (workspace_text workspace.now).packages (words_text holds_on planned.entry.words.now) (map found_text founds.now)))) }
 {
     let mut writer = begin_line(Vec::new(alloc))?;
-    write_rule(&mut writer, rule)?;
-    write_whys(alloc, &mut writer, workspace, words, founds)?;
+    write_rule(&mut writer, planned.judged, rule)?;
+    write_whys(alloc, &mut writer, workspace, planned.words, founds)?;
     end_line(writer)
 }

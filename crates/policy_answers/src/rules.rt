@@ -6,11 +6,11 @@ ghost use Rattle.policies.specs.Views.{rule_text};
 ghost use Rattle.policy_answers.specs.Broken as spec;
 ghost use Rattle.policy_answers.specs.QuestionViews.{printed_text, question_text};
 ghost use Rattle.policy_answers.specs.Scenes.{IsScene, judged, judged_in, judged_widely};
-ghost use Rattle.policy_answers.specs.inner.Grown.{AreScenes};
-ghost use Rattle.policy_answers.specs.inner.PlannedViews.{scene_by, scenes_by};
+ghost use Rattle.policy_answers.specs.inner.Grown.{AreScenes, AreWide};
+ghost use Rattle.policy_answers.specs.inner.PlannedViews.{scene_by, scenes_by, wide_by};
 
 use crate::broken::text_of_verdicts;
-use crate::planned::{Planned, denied_everywhere};
+use crate::planned::{Planned, Wide};
 use crate::question::{PolicyQuestion, PolicyText};
 use cargo_workspaces::Workspace;
 use feats_files::Fault;
@@ -40,6 +40,7 @@ fn printed_in(
         split: planned.words.selection.split,
         host: asked.host,
         targets: asked.targets,
+        judged: planned.judged,
     };
     match check(alloc, build, slice::from_ref(&rule)) {
         Ok(verdicts) => {
@@ -51,49 +52,52 @@ fn printed_in(
     }
 }
 
-/// Returns the text about `rule` for every choice, and whether it is broken: a `deny` is judged in `widest` and for all platforms, another
-/// rule in `here`.
+/// Returns the text about `rule` for every choice, and whether it is broken: a `deny` is judged in `wide`, another rule in `here`.
 fn printed_widely(
     alloc: Global,
     asked: PolicyQuestion<'_, '_, '_, '_>,
     workspace: &Workspace<'_>,
     selected: &[usize],
     here: Planned<'_, '_, '_, '_, '_>,
-    widest: Planned<'_, '_, '_, '_, '_>,
+    wide: Wide<'_, '_, '_, '_, '_>,
     rule: Rule<'_>,
 ) -> Result<PolicyText, Fault>
     requires here { IsScene (scene_by (workspace_text workspace.now) selected.now (question_text asked) here) }
-    requires widest { IsScene (scene_by (workspace_text workspace.now) selected.now (question_text asked) widest) }
-    ensures text { IfOk result (λ printed. spec.IsRuleText (question_text asked.entry) (judged_widely (scene_by (workspace_text workspace.now) selected.now (question_text asked.entry) here.entry) (scene_by (workspace_text workspace.now) selected.now (question_text asked.entry) widest.entry) (rule_text rule.entry)) (printed_text printed)) }
-    ensures fault { IfErr result (λ fault. Says fault (spec.IsRuleRefusal (question_text asked.entry) (judged_widely (scene_by (workspace_text workspace.now) selected.now (question_text asked.entry) here.entry) (scene_by (workspace_text workspace.now) selected.now (question_text asked.entry) widest.entry) (rule_text rule.entry)))) }
+    requires wide { AreWide (wide_by (workspace_text workspace.now) selected.now (question_text asked) wide) }
+    ensures text { IfOk result (λ printed. spec.IsRuleText (question_text asked.entry) (judged_widely (scene_by (workspace_text workspace.now) selected.now (question_text asked.entry) here.entry) (wide_by (workspace_text workspace.now) selected.now (question_text asked.entry) wide.entry) (rule_text rule.entry)) (printed_text printed)) }
+    ensures fault { IfErr result (λ fault. Says fault (spec.IsRuleRefusal (question_text asked.entry) (judged_widely (scene_by (workspace_text workspace.now) selected.now (question_text asked.entry) here.entry) (wide_by (workspace_text workspace.now) selected.now (question_text asked.entry) wide.entry) (rule_text rule.entry)))) }
 {
     match rule.kind {
-        RuleKind::Deny { feature, on: _ } => {
-            let everywhere = denied_everywhere(rule, feature);
-            printed_in(alloc, asked, workspace, selected, widest, everywhere)
-        }
+        RuleKind::Deny {
+            feature: _,
+            on: None,
+        } => printed_in(alloc, asked, workspace, selected, wide.widest, rule),
+        RuleKind::Deny {
+            feature: _,
+            on: Some(_),
+        } => printed_in(alloc, asked, workspace, selected, wide.all, rule),
         RuleKind::Require { feature: _ } | RuleKind::DenyDuplicates { spec: _ } => {
             printed_in(alloc, asked, workspace, selected, here, rule)
         }
     }
 }
 
-/// Returns the text about `rule`, and whether it is broken. If `widest` is given, `rule` is judged for every choice.
+/// Returns the text about `rule`, and whether it is broken. If `wide` is given, `rule` is judged for every choice.
 fn printed_of(
     alloc: Global,
     asked: PolicyQuestion<'_, '_, '_, '_>,
     workspace: &Workspace<'_>,
     selected: &[usize],
     here: Planned<'_, '_, '_, '_, '_>,
-    widest: Option<Planned<'_, '_, '_, '_, '_>>,
+    wide: Option<Wide<'_, '_, '_, '_, '_>>,
     rule: Rule<'_>,
 ) -> Result<PolicyText, Fault>
-    requires { AreScenes (scenes_by (workspace_text workspace.now) selected.now (question_text asked) here widest) }
-    ensures text { IfOk result (λ printed. spec.IsRuleText (question_text asked.entry) (judged (scenes_by (workspace_text workspace.now) selected.now (question_text asked.entry) here.entry widest.entry) (rule_text rule.entry)) (printed_text printed)) }
-    ensures fault { IfErr result (λ fault. Says fault (spec.IsRuleRefusal (question_text asked.entry) (judged (scenes_by (workspace_text workspace.now) selected.now (question_text asked.entry) here.entry widest.entry) (rule_text rule.entry)))) }
+    requires { AreScenes (scenes_by (workspace_text workspace.now) selected.now (question_text asked) here wide) }
+    ensures text { IfOk result (λ printed. spec.IsRuleText (question_text asked.entry) (judged (scenes_by (workspace_text workspace.now) selected.now (question_text asked.entry) here.entry wide.entry) (rule_text rule.entry)) (printed_text printed)) }
+    ensures fault { IfErr result (λ fault. Says fault (spec.IsRuleRefusal (question_text asked.entry) (judged (scenes_by (workspace_text workspace.now) selected.now (question_text asked.entry) here.entry wide.entry) (rule_text rule.entry)))) }
 {
-    match widest {
-        Some(widest) => printed_widely(alloc, asked, workspace, selected, here, widest, rule),
+    match wide {
+        Some(wide) => printed_widely(alloc, asked, workspace, selected, here, wide, rule),
         None => printed_in(alloc, asked, workspace, selected, here, rule),
     }
 }
@@ -109,25 +113,25 @@ fn append(printed: &mut PolicyText, one: &PolicyText) -> Result<(), AllocError>
 }
 
 /// Returns the joined texts about the rules of the policy, and whether one is broken. The build selects the packages `selected`, and `here` is
-/// its plan. If `widest` is given, the rules are judged for every choice.
+/// its plan. If `wide` is given, the rules are judged for every choice.
 pub(crate) fn printed_rules(
     alloc: Global,
     asked: PolicyQuestion<'_, '_, '_, '_>,
     workspace: &Workspace<'_>,
     selected: &[usize],
     here: Planned<'_, '_, '_, '_, '_>,
-    widest: Option<Planned<'_, '_, '_, '_, '_>>,
+    wide: Option<Wide<'_, '_, '_, '_, '_>>,
 ) -> Result<PolicyText, Fault>
-    requires { AreScenes (scenes_by (workspace_text workspace.now) selected.now (question_text asked) here widest) }
-    ensures text { IfOk result (λ printed. spec.IsPolicyText (question_text asked.entry) (scenes_by (workspace_text workspace.now) selected.now (question_text asked.entry) here.entry widest.entry) (printed_text printed)) }
-    ensures fault { IfErr result (λ fault. Says fault (spec.IsRulesRefusal (question_text asked.entry) (scenes_by (workspace_text workspace.now) selected.now (question_text asked.entry) here.entry widest.entry))) }
+    requires { AreScenes (scenes_by (workspace_text workspace.now) selected.now (question_text asked) here wide) }
+    ensures text { IfOk result (λ printed. spec.IsPolicyText (question_text asked.entry) (scenes_by (workspace_text workspace.now) selected.now (question_text asked.entry) here.entry wide.entry) (printed_text printed)) }
+    ensures fault { IfErr result (λ fault. Says fault (spec.IsRulesRefusal (question_text asked.entry) (scenes_by (workspace_text workspace.now) selected.now (question_text asked.entry) here.entry wide.entry))) }
 {
     let mut printed = PolicyText {
         text: Vec::new(alloc),
         is_broken: false,
     };
     for rule in asked.rules {
-        let one = printed_of(alloc, asked, workspace, selected, here, widest, *rule)?;
+        let one = printed_of(alloc, asked, workspace, selected, here, wide, *rule)?;
         append(&mut printed, &one)?;
     }
     Ok(printed)

@@ -1,11 +1,12 @@
 -- The broken rules of a policy.
-use Rattle.std.specs.Prelude.{◌≡◌, ℕ, List, [], ◌∷◌, Some, flat_map, slice_get}
-use Rattle.cargo_workspaces.specs.Workspaces.{Text}
+use Rattle.std.specs.Prelude.{◌≡◌, ℕ, List, [], ◌∷◌, Some, filter, flat_map, slice_get}
+use Rattle.cargo_workspaces.specs.Workspaces.{PackageText, Text}
 use Rattle.plan_names.specs.Names.{NamedText}
 use Rattle.plan_whys.specs.Steps.{SpotText}
 use Rattle.policies.specs.Rules.{RuleText}
 use Rattle.policy_checks.specs.Builds.{BuildText}
 use Rattle.policy_checks.specs.Found.{FoundText, ambiguous, broken, found_of, kept, no_platform}
+use Rattle.policy_checks.specs.Meanings.{names_nothing}
 
 -- A broken rule, and the spots that break it.
 pub record VerdictText : Type 0 where
@@ -52,3 +53,7 @@ pub record AreVerdicts (b : BuildText) (rules : List RuleText) (verdicts : List 
 abbrev pub IsFirstRefusal : List RefusalText → RefusalText → Type 0
 IsFirstRefusal given out_of_memory = Unit {0}
 IsFirstRefusal given refusal = slice_get given 0 ≡ Some refusal
+
+-- THE UNMATCHED RULES: those whose words name nothing in the packages of a workspace, in the order of the rules.
+abbrev pub unmatched : List PackageText → List ℕ → List RuleText → List RuleText
+unmatched packages selected rules = filter (λ r. names_nothing packages selected r.kind) rules

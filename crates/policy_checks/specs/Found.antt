@@ -1,12 +1,13 @@
 -- What is found of a rule in a build.
-use Rattle.std.specs.Prelude.{ℕ, List, [], ◌∷◌, Option, Some, None, filter, map, length, nat_eq, nat_lt, if◌then◌else◌}
-use Rattle.std.specs.List.{list_any}
-use Rattle.cargo_workspaces.specs.Workspaces.{Text}
+use Rattle.std.specs.Prelude.{ℕ, List, [], ◌∷◌, Bool, Option, Some, None, filter, map, length, nat_lt, slice_get, if◌then◌else◌}
+use Rattle.std.specs.Option.{option_map_or}
+use Rattle.std.specs.Str.{bytes_eq}
+use Rattle.cargo_workspaces.specs.Workspaces.{PackageText, Text}
+use Rattle.plan_names.specs.Matches.{packages_matching}
 use Rattle.plan_names.specs.Names.{NamedText, of_package, whole}
 use Rattle.plan_whys.specs.Steps.{SpotText}
-use Rattle.plan_words.specs.PackageWords.{packages_of_word}
 use Rattle.policies.specs.Rules.{KindText, deny, deny_duplicates, require}
-use Rattle.policy_checks.specs.Builds.{BuildText, built, is_platform}
+use Rattle.policy_checks.specs.Builds.{BuildText, is_built_anywhere, is_platform}
 use Rattle.policy_checks.specs.Meanings.{MeaningText, meaning_in, one_of, these}
 use Rattle.policy_checks.specs.Spots.{spots_on, spots_on_for}
 
@@ -52,18 +53,33 @@ denied_where b word (Some triple) = denied_on b word triple
 abbrev pub required : BuildText → Text → FoundText
 required b word = of_meaning (λ parts. required_at (spots_on b parts)) (meaning_in b word)
 
--- Packages that are among those that are built.
+-- Those of the packages that are built.
 abbrev pub built_among : BuildText → List ℕ → List ℕ
-built_among b numbers = filter (λ p. list_any (nat_eq p) (built b)) numbers
+built_among b numbers = filter (is_built_anywhere b) numbers
 
--- Packages of one name: more than one is too many.
-abbrev pub denied_if_several : BuildText → List ℕ → FoundText
-denied_if_several b numbers =
-    if nat_lt 1 (length numbers) then broken (spots_on b (map (λ p. of_package p whole) numbers)) else kept
+abbrev pub name_at : List PackageText → ℕ → Text
+name_at packages p = option_map_or (λ x. x.name) (slice_get packages p) []
+
+-- Those of the packages that have this name.
+abbrev pub with_name : List PackageText → List ℕ → Text → List ℕ
+with_name packages numbers name = filter (λ p. bytes_eq name (name_at packages p)) numbers
+
+-- Whether several of the packages have the name of package `p`.
+abbrev pub has_namesake : List PackageText → List ℕ → ℕ → Bool
+has_namesake packages numbers p = nat_lt 1 (length (with_name packages numbers (name_at packages p)))
+
+-- Those of the packages of which several have one name.
+abbrev pub repeated : List PackageText → List ℕ → List ℕ
+repeated packages numbers = filter (has_namesake packages numbers) numbers
+
+-- Packages that are denied: each is too many.
+abbrev pub denied_packages : BuildText → List ℕ → FoundText
+denied_packages b [] = kept
+denied_packages b (p ∷ ps) = broken (spots_on b (map (λ p. of_package p whole) (p ∷ ps)))
 
 -- `deny-duplicates SPEC`.
 abbrev pub duplicates_denied : BuildText → Text → FoundText
-duplicates_denied b word = denied_if_several b (built_among b (packages_of_word b.packages word))
+duplicates_denied b word = denied_packages b (repeated b.packages (built_among b (packages_matching b.packages word)))
 
 abbrev pub found_of : BuildText → KindText → FoundText
 found_of b (deny word on) = denied_where b word on

@@ -21,6 +21,7 @@ build_text b = record {
   split = b.split;
   host = b.host.now;
   targets = texts b.targets.now;
+  judged = b.judged;
 }
 
 abbrev pub verdict_text : Verdict → VerdictText

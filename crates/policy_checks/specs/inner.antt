@@ -1,4 +1,5 @@
 -- Definitions that only contracts of private functions use.
+pub mod Groups
 pub mod Marks
 pub mod Returned
 pub mod Scopes

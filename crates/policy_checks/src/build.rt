@@ -1,5 +1,6 @@
 //! The build that a policy is about.
 
+use crate::judged::Judged;
 use cargo_plans::Plan;
 use cargo_workspaces::Workspace;
 
@@ -16,4 +17,6 @@ pub struct Build<'b, 'v, 'w, 'n> {
     pub host: &'b str,
     /// The triples of the target platforms: without `--target`, that of the host alone.
     pub targets: &'b [&'n str],
+    /// Which build it is. In the place of every choice all that is on counts, built or not.
+    pub judged: Judged,
 }

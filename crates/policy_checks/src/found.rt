@@ -1,12 +1,7 @@
 //! What is found of a rule.
-ghost use Rattle.std.specs.Prelude.{◌≡◌, IfOk, map, nat_eq, option_map};
-ghost use Rattle.std.specs.List.{list_any};
-ghost use Rattle.plan_names.specs.Names.{of_package, whole};
-ghost use Rattle.plan_names.specs.Views.{named_text};
-ghost use Rattle.cargo_plans.specs.plan_units.UnitViews.{unit_text};
+ghost use Rattle.std.specs.Prelude.{◌≡◌, IfOk, map, option_map};
 ghost use Rattle.plan_whys.specs.StepViews.{spot_text};
 ghost use Rattle.policies.specs.Views.{kind_text};
-ghost use Rattle.policy_checks.specs.Builds.{built};
 ghost use Rattle.policy_checks.specs.Found as spec;
 ghost use Rattle.policy_checks.specs.Views.{build_text};
 ghost use Rattle.policy_checks.specs.inner.Returned.{found_text};
@@ -14,11 +9,10 @@ ghost use Rattle.policy_checks.specs.inner.Returned.{found_text};
 use crate::build::Build;
 use crate::meaning::{Meaning, meaning_of};
 use crate::on_spots::{spots_on, spots_on_for};
+use crate::packages::{built_among, repeated, wholes};
 use crate::platforms::is_platform;
-use cargo_plans::Unit;
-use plan_names::{Named, Part};
+use plan_names::{Named, packages_matching};
 use plan_whys::Spot;
-use plan_words::packages_of_word;
 use policies::RuleKind;
 use std::alloc::{AllocError, Global};
 
@@ -67,7 +61,7 @@ fn denied<'b>(
 ) -> Result<Found<'b>, AllocError>
     ensures { IfOk result (λ found. found_text found ≡ spec.denied (build_text build.entry) word.now) }
 {
-    match meaning_of(alloc, build, word)? {
+    match meaning_of(alloc, build.workspace, build.selected, word)? {
         Meaning::Parts(parts) => Ok(denied_at(spots_on(alloc, build, &parts)?)),
         Meaning::Several { word, candidates } => Ok(Found::Several { word, candidates }),
     }
@@ -82,7 +76,7 @@ fn denied_for<'b>(
 ) -> Result<Found<'b>, AllocError>
     ensures { IfOk result (λ found. found_text found ≡ spec.denied_for (build_text build.entry) word.now triple.now) }
 {
-    match meaning_of(alloc, build, word)? {
+    match meaning_of(alloc, build.workspace, build.selected, word)? {
         Meaning::Parts(parts) => Ok(denied_at(spots_on_for(alloc, build, triple, &parts)?)),
         Meaning::Several { word, candidates } => Ok(Found::Several { word, candidates }),
     }
@@ -127,7 +121,7 @@ fn required<'b>(
 ) -> Result<Found<'b>, AllocError>
     ensures { IfOk result (λ found. found_text found ≡ spec.required (build_text build.entry) word.now) }
 {
-    match meaning_of(alloc, build, word)? {
+    match meaning_of(alloc, build.workspace, build.selected, word)? {
         Meaning::Parts(parts) => {
             let spots = spots_on(alloc, build, &parts)?;
             Ok(required_at(alloc, &spots))
@@ -136,69 +130,19 @@ fn required<'b>(
     }
 }
 
-/// Returns whether package `number` is that of one of `units`.
-fn is_among(units: &[Unit<'_>], number: usize) -> bool
-    ensures { result ≡ list_any (nat_eq number) (map (λ u. u.number) (map unit_text units.now)) }
-{
-    for unit in units {
-        if number == unit.package {
-            return true;
-        }
-    }
-    false
-}
-
-/// Returns whether package `number` is built.
-fn is_built(build: Build<'_, '_, '_, '_>, number: usize) -> bool
-    ensures { result ≡ list_any (nat_eq number) (built (build_text build.entry)) }
-{
-    is_among(build.plan.units(), number)
-}
-
-/// Returns those of the packages `numbers` that are built.
-fn built_among(
-    alloc: Global,
-    build: Build<'_, '_, '_, '_>,
-    numbers: &[usize],
-) -> Result<Vec<usize>, AllocError>
-    ensures { IfOk result (λ among. among.items ≡ spec.built_among (build_text build.entry) numbers.now) }
-{
-    let mut among = Vec::new(alloc);
-    for number in numbers {
-        if is_built(build, *number) {
-            among.push(*number)?;
-        }
-    }
-    Ok(among)
-}
-
-/// Returns the packages `numbers`, themselves.
-fn wholes<'w>(alloc: Global, numbers: &[usize]) -> Result<Vec<Named<'w>>, AllocError>
-    ensures { IfOk result (λ named. map named_text named.items ≡ map (λ p. of_package p whole) numbers.now) }
-{
-    let mut named = Vec::with_capacity(alloc, numbers.len())?;
-    for number in numbers {
-        named.push(Named {
-            package: *number,
-            part: Part::Package,
-        })?;
-    }
-    Ok(named)
-}
-
-/// Returns what is found of the packages `numbers`, which are built, and of which one is wanted at most.
-fn denied_if_several<'b>(
+/// Returns what is found of packages that are denied, `numbers`.
+fn denied_packages<'b>(
     alloc: Global,
     build: Build<'b, '_, '_, '_>,
     numbers: &[usize],
 ) -> Result<Found<'b>, AllocError>
-    ensures { IfOk result (λ found. found_text found ≡ spec.denied_if_several (build_text build.entry) numbers.now) }
+    ensures { IfOk result (λ found. found_text found ≡ spec.denied_packages (build_text build.entry) numbers.now) }
 {
-    if numbers.len() > 1 {
+    if numbers.is_empty() {
+        Ok(Found::Kept)
+    } else {
         let named = wholes(alloc, numbers)?;
         Ok(Found::Broken(spots_on(alloc, build, &named)?))
-    } else {
-        Ok(Found::Kept)
     }
 }
 
@@ -210,9 +154,10 @@ fn duplicates_denied<'b>(
 ) -> Result<Found<'b>, AllocError>
     ensures { IfOk result (λ found. found_text found ≡ spec.duplicates_denied (build_text build.entry) word.now) }
 {
-    let numbers = packages_of_word(alloc, build.workspace, word)?;
+    let numbers = packages_matching(alloc, build.workspace, word)?;
     let among = built_among(alloc, build, &numbers)?;
-    denied_if_several(alloc, build, &among)
+    let repeated = repeated(alloc, build.workspace, &among)?;
+    denied_packages(alloc, build, &repeated)
 }
 
 /// Returns what is found of a rule of this kind in `build`.

@@ -1,13 +1,13 @@
 //! What the words of rules mean.
 ghost use Rattle.std.specs.Prelude.{◌≡◌, Err, IfOk, List, Result};
+ghost use Rattle.cargo_workspaces.specs.WorkspaceView.{workspace_text};
 ghost use Rattle.plan_names.specs.Faults.{IfNotMemory, NameRefusal, refusal_of};
 ghost use Rattle.plan_names.specs.Names.{NamedText};
 ghost use Rattle.policy_checks.specs.Meanings as spec;
-ghost use Rattle.policy_checks.specs.Views.{build_text};
 ghost use Rattle.policy_checks.specs.inner.Returned.{meaning_text};
 
-use crate::build::Build;
-use plan_names::{NameFault, Named, parts_named};
+use cargo_workspaces::Workspace;
+use plan_names::{NameFault, Named, parts_matching};
 use std::alloc::{AllocError, Global};
 
 /// What a word means.
@@ -33,15 +33,16 @@ fn meaning_by<'w>(alloc: Global, fault: NameFault<'w>) -> Result<Meaning<'w>, Al
     }
 }
 
-/// Returns what `word` means in `build`.
+/// Returns what `word` means in `workspace`. A feature's name alone is looked up in the packages `selected` first.
 pub(crate) fn meaning_of<'b>(
     alloc: Global,
-    build: Build<'b, '_, '_, '_>,
+    workspace: &'b Workspace<'_>,
+    selected: &[usize],
     word: &'b str,
 ) -> Result<Meaning<'b>, AllocError>
-    ensures { IfOk result (λ meaning. meaning_text meaning ≡ spec.meaning_in (build_text build.entry) word.now) }
+    ensures { IfOk result (λ meaning. meaning_text meaning ≡ spec.meaning_among (workspace_text workspace.now).packages selected.now word.now) }
 {
-    match parts_named(alloc, build.workspace, build.selected, word) {
+    match parts_matching(alloc, workspace, selected, word) {
         Ok(named) => Ok(Meaning::Parts(named)),
         Err(fault) => meaning_by(alloc, fault),
     }

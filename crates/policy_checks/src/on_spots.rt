@@ -6,10 +6,12 @@ ghost use Rattle.cargo_plans.specs.plan_starts.PackageVisits.{is_on};
 ghost use Rattle.plan_whys.specs.StepViews.{spot_text};
 ghost use Rattle.policy_checks.specs.Spots as spec;
 ghost use Rattle.policy_checks.specs.Views.{build_text};
-ghost use Rattle.policy_checks.specs.inner.Scopes.{is_marked, passes};
+ghost use Rattle.policy_checks.specs.inner.Scopes.{is_marked, is_spot_built, passes};
 
 use crate::build::Build;
+use crate::judged::Judged;
 use crate::platforms::built_for;
+use built_parts::BuiltParts;
 use cargo_plans::{PackageVisit, Side};
 use feature_labels::FeatureLabel;
 use plan_names::{Named, Part};
@@ -17,10 +19,11 @@ use plan_rows::TurnedOn;
 use plan_whys::Spot;
 use std::alloc::{AllocError, Global};
 
-/// Which spots count: all, or those of the packages that are marked, for the spot's side.
+/// Which spots count: all, those of the packages that are built on the spot's side, or those of the packages that are marked for it.
 #[derive(Clone, Copy)]
 pub(crate) enum Scope<'m> {
     Everywhere,
+    Built(&'m BuiltParts<'m>),
     Marked {
         target: &'m [bool],
         host: &'m [bool],
@@ -83,6 +86,7 @@ fn passes(on: &PackageVisit, scope: Scope<'_>, at: Spot<'_>) -> bool
 {
     match scope {
         Scope::Everywhere => is_on(on, at),
+        Scope::Built(parts) => is_on(on, at) && parts.builds(at.side, at.package),
         Scope::Marked { target, host } => is_on(on, at) && is_marked(target, host, at),
     }
 }
@@ -131,7 +135,20 @@ fn spots_in<'w>(
     Ok(spots)
 }
 
-/// Returns the spots of `parts` that are on in `build`.
+/// Returns the spots of `parts` that are on in `build`, and whose packages are built on their sides.
+fn spots_built<'w>(
+    alloc: Global,
+    build: Build<'_, '_, '_, '_>,
+    parts: &[Named<'w>],
+) -> Result<Vec<Spot<'w>>, AllocError>
+    ensures { IfOk result (λ spots. map spot_text spots.items ≡ filter (is_spot_built (build_text build.entry)) (flat_map spec.on_both_sides (map named_text parts.now))) }
+{
+    let built = BuiltParts::of_plan(alloc, build.split, build.plan)?;
+    spots_in(alloc, build.plan.on(), Scope::Built(&built), parts)
+}
+
+/// Returns the spots of `parts` that count in `build`: they are on, and their packages are built on their sides. For every choice all that
+/// is on counts.
 pub(crate) fn spots_on<'w>(
     alloc: Global,
     build: Build<'_, '_, '_, '_>,
@@ -139,7 +156,10 @@ pub(crate) fn spots_on<'w>(
 ) -> Result<Vec<Spot<'w>>, AllocError>
     ensures { IfOk result (λ spots. map spot_text spots.items ≡ spec.spots_on (build_text build.entry) (map named_text parts.now)) }
 {
-    spots_in(alloc, build.plan.on(), Scope::Everywhere, parts)
+    match build.judged {
+        Judged::ForEveryChoice => spots_in(alloc, build.plan.on(), Scope::Everywhere, parts),
+        Judged::InBuild | Judged::WithAll => spots_built(alloc, build, parts),
+    }
 }
 
 /// Returns the spots of `parts` that are on in `build`, and whose packages are built for the platform `triple`.

@@ -4,6 +4,8 @@ use Rattle.std.specs.Fmt.{decimal}
 use Rattle.policies.specs.Lines.{Text}
 use Rattle.policies.specs.Rules.{KindText, RuleText, deny, deny_duplicates, require}
 use Rattle.shown_texts.specs.Shown.{escaped}
+use Rattle.policy_checks.specs.declared.judged.Judged.{Judged}
+use Rattle.policy_checks.specs.declared.judged.Judged.TheVariants.{ForEveryChoice, InBuild, WithAll}
 
 -- The end of a rule for one platform.
 abbrev pub platform_end : Option Text → Text
@@ -16,11 +18,17 @@ kind_words (deny word on) = codes "deny " ++ (word ++ platform_end on)
 kind_words (require word) = codes "require " ++ word
 kind_words (deny_duplicates word) = codes "deny-duplicates " ++ word
 
--- What breaks it.
-abbrev pub breach : KindText → Text
-breach (deny word on) = codes ": it is on"
-breach (require word) = codes ": it is off"
-breach (deny_duplicates word) = codes ": several are built"
+-- What breaks a deny, where it is judged.
+abbrev pub denied_breach : Judged → Text
+denied_breach InBuild = codes ": it is on"
+denied_breach WithAll = codes ": it is on with all members, features and tests"
+denied_breach ForEveryChoice = codes ": some choice may break it"
+
+-- What breaks a rule.
+abbrev pub breach : Judged → KindText → Text
+breach judged (deny word on) = denied_breach judged
+breach judged (require word) = codes ": it is off"
+breach judged (deny_duplicates word) = codes ": several are built"
 
 -- The reason, in brackets.
 abbrev pub reason_end : Option Text → Text
@@ -32,8 +40,8 @@ abbrev pub place : Text → ℕ → Text
 place file line = escaped file ++ (codes ":" ++ (decimal line ++ codes ": "))
 
 -- The first line: the place of the rule, the rule, what breaks it, and the reason.
-abbrev pub first_line : Text → RuleText → Text
-first_line file r = place file r.line ++ (kind_words r.kind ++ (breach r.kind ++ (reason_end r.reason ++ 10 ∷ [])))
+abbrev pub first_line : Text → Judged → RuleText → Text
+first_line file judged r = place file r.line ++ (kind_words r.kind ++ (breach judged r.kind ++ (reason_end r.reason ++ 10 ∷ [])))
 
 abbrev pub is_line_feed : ℕ → Bool
 is_line_feed c = c == 10
@@ -47,5 +55,5 @@ abbrev pub indented : Text → Text
 indented text = indented_from true text
 
 -- THE LINES about a broken rule of this file: the first line, and the lines that explain what is on.
-abbrev pub verdict_lines : Text → RuleText → Text → Text
-verdict_lines file r whys = first_line file r ++ indented whys
+abbrev pub verdict_lines : Text → Judged → RuleText → Text → Text
+verdict_lines file judged r whys = first_line file judged r ++ indented whys

@@ -5,6 +5,7 @@ use Rattle.cargo_workspaces.specs.Workspaces.{PackageText, Text}
 use Rattle.feats_files.specs.Platforms.{id_at}
 use Rattle.plan_names.specs.Names.{NamedText, PartText, dependency, feature, whole}
 use Rattle.policies.specs.Problems.{problem_text}
+use Rattle.policies.specs.Rules.{KindText, RuleText, deny, deny_duplicates, require}
 use Rattle.policies.specs.declared.fault.PolicyFault.{PolicyFault}
 use Rattle.policies.specs.declared.fault.PolicyFault.TheVariants as fault
 use Rattle.policies.specs.declared.problem.Problem.{Problem}
@@ -56,3 +57,17 @@ abbrev pub IsCheckMessage : BuildText → Text → RefusalText → Text → Type
 IsCheckMessage b file (several_in line word candidates) message = message ≡ several_message b.packages file line word candidates
 IsCheckMessage b file (no_platform_in line triple) message = message ≡ platform_message b file line triple
 IsCheckMessage b file out_of_memory message = ⊥
+
+-- The word that a rule is about.
+abbrev pub word_of : KindText → Text
+word_of (deny word on) = word
+word_of (require word) = word
+word_of (deny_duplicates word) = word
+
+-- The message about a rule whose word names nothing.
+abbrev pub unmatched_message : Text → RuleText → Text
+unmatched_message file r = about file r.line (word_of r.kind) (codes "` names nothing in the document: check the spelling, or leave the rule out")
+
+-- The message about a policy with rules that aren't judged for every choice.
+abbrev pub build_message : Text → Text
+build_message file = file ++ codes ": `require` and `deny-duplicates` are judged for this build alone"

@@ -4,6 +4,8 @@ use Rattle.json.specs.Token.{Token, begin_object}
 use Rattle.line_parts.specs.Members.{number_member, object_line, optional_member, text_member}
 use Rattle.policies.specs.Lines.{Text}
 use Rattle.policies.specs.Rules.{KindText, RuleText, deny, deny_duplicates, require}
+use Rattle.policy_checks.specs.declared.judged.Judged.{Judged}
+use Rattle.policy_checks.specs.declared.judged.Judged.TheVariants.{ForEveryChoice, InBuild, WithAll}
 
 -- The members of what a rule demands: its first word, the word that it is about, and its platform or null.
 abbrev pub kind_members : Text → Text → Option Text → List Token
@@ -14,10 +16,17 @@ members_of (deny word on) = kind_members (codes "deny") word on
 members_of (require word) = kind_members (codes "require") word None
 members_of (deny_duplicates word) = kind_members (codes "deny-duplicates") word None
 
--- The members of a rule, with the number of its line, and its reason or null.
-abbrev pub rule_members : RuleText → List Token
-rule_members r = number_member (codes "line") r.line ++ (members_of r.kind ++ optional_member (codes "reason") r.reason)
+-- Where a rule is judged, in a word.
+abbrev pub judged_word : Judged → Text
+judged_word InBuild = codes "build"
+judged_word WithAll = codes "all"
+judged_word ForEveryChoice = codes "every-choice"
+
+-- The members of a rule, with the number of its line, its reason or null, and where it is judged.
+abbrev pub rule_members : Judged → RuleText → List Token
+rule_members judged r =
+    number_member (codes "line") r.line ++ (members_of r.kind ++ (optional_member (codes "reason") r.reason ++ text_member (codes "judged") (judged_word judged)))
 
 -- The line of a rule.
-abbrev pub rule_line : RuleText → Text
-rule_line r = object_line (begin_object ∷ rule_members r)
+abbrev pub rule_line : Judged → RuleText → Text
+rule_line judged r = object_line (begin_object ∷ rule_members judged r)

@@ -5,6 +5,7 @@ ghost use Rattle.policy_lines.specs.Lines as spec;
 
 use crate::words::{breach, push, push_kind, push_place, push_reason};
 use policies::Rule;
+use policy_checks::Judged;
 use std::alloc::{AllocError, Global};
 
 /// Appends `byte`, after four spaces if a line starts with it and it doesn't end that line.
@@ -30,33 +31,35 @@ fn push_indented(text: &mut Vec<u8>, lines: &[u8]) -> Result<(), AllocError>
     Ok(())
 }
 
-/// Appends the first line about the broken rule `rule` of `file`.
+/// Appends the first line about the broken rule `rule` of `file`, which is judged in `judged`.
 fn push_first(
     alloc: Global,
     text: &mut Vec<u8>,
     file: &str,
+    judged: Judged,
     rule: Rule<'_>,
 ) -> Result<(), AllocError>
-    ensures { OnOk result (text.new.items ≡ text.old.items ++ spec.first_line file.now (rule_text rule.entry)) }
+    ensures { OnOk result (text.new.items ≡ text.old.items ++ spec.first_line file.now judged (rule_text rule.entry)) }
 {
     push_place(alloc, text, file, rule.line)?;
     push_kind(text, rule.kind)?;
-    push(text, breach(rule.kind))?;
+    push(text, breach(judged, rule.kind))?;
     push_reason(text, rule.reason)?;
     push(text, "\n")
 }
 
-/// Appends the lines about the broken rule `rule` of `file`: the place of the rule, the rule, what breaks it and the reason; and, each
-/// after four spaces, the lines `whys`, which explain what is on.
+/// Appends the lines about the broken rule `rule` of `file`, which is judged in `judged`: the place of the rule, the rule, what breaks it and
+/// the reason; and, each after four spaces, the lines `whys`, which explain what is on.
 pub fn push_verdict(
     alloc: Global,
     text: &mut Vec<u8>,
     file: &str,
+    judged: Judged,
     rule: Rule<'_>,
     whys: &[u8],
 ) -> Result<(), AllocError>
-    ensures { OnOk result (text.new.items ≡ text.old.items ++ spec.verdict_lines file.now (rule_text rule.entry) whys.now) }
+    ensures { OnOk result (text.new.items ≡ text.old.items ++ spec.verdict_lines file.now judged (rule_text rule.entry) whys.now) }
 {
-    push_first(alloc, text, file, rule)?;
+    push_first(alloc, text, file, judged, rule)?;
     push_indented(text, whys)
 }

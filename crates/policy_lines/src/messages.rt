@@ -19,7 +19,7 @@ use shown_texts::escaped;
 use std::alloc::{AllocError, Global};
 
 /// Returns the refusal with this message, or `Memory` if there is none.
-fn refused_by(message: Result<String, AllocError>) -> Fault
+pub(crate) fn refused_by(message: Result<String, AllocError>) -> Fault
     ensures { (text : Text) → IfOk message (λ m. string_bytes m ≡ text) → Says result (λ m. m ≡ text) }
 {
     match message {
@@ -67,7 +67,7 @@ pub fn policy_refused(alloc: Global, file: &str, fault: PolicyFault) -> Fault
 }
 
 /// Returns the beginning of a message about `word` in line `line`.
-fn about(
+pub(crate) fn about(
     alloc: Global,
     file: &str,
     line: usize,

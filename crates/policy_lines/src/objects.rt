@@ -7,6 +7,7 @@ ghost use Rattle.policy_lines.specs.Objects as spec;
 use json::Writer;
 use line_parts::{begin_line, end_line, write_member, write_number, write_optional};
 use policies::{Rule, RuleKind};
+use policy_checks::Judged;
 use std::alloc::AllocError;
 
 /// Writes the members of a rule that begins with `verb`, about `word` and for the platform `on`.
@@ -34,20 +35,33 @@ fn write_kind(writer: &mut Writer, kind: RuleKind<'_>) -> Result<(), AllocError>
     }
 }
 
-/// Writes the members of `rule`: its line, its first word, the word that it is about, its platform or null, and its reason or null.
-pub fn write_rule(writer: &mut Writer, rule: Rule<'_>) -> Result<(), AllocError>
-    ensures { OnOk result (Appends writer.old writer.new (spec.rule_members (rule_text rule.entry))) }
+/// Returns where a rule is judged, in a word.
+fn judged_word(judged: Judged) -> &'static str
+    ensures { result.now ≡ spec.judged_word judged }
+{
+    match judged {
+        Judged::InBuild => "build",
+        Judged::WithAll => "all",
+        Judged::ForEveryChoice => "every-choice",
+    }
+}
+
+/// Writes the members of `rule`: its line, its first word, the word that it is about, its platform or null, its reason or null, and where it
+/// is judged.
+pub fn write_rule(writer: &mut Writer, judged: Judged, rule: Rule<'_>) -> Result<(), AllocError>
+    ensures { OnOk result (Appends writer.old writer.new (spec.rule_members judged (rule_text rule.entry))) }
 {
     write_number(writer, "line", rule.line)?;
     write_kind(writer, rule.kind)?;
-    write_optional(writer, "reason", rule.reason)
+    write_optional(writer, "reason", rule.reason)?;
+    write_member(writer, "judged", judged_word(judged))
 }
 
-/// Appends the object of `rule`, and a line feed.
-pub fn push_object(text: Vec<u8>, rule: Rule<'_>) -> Result<Vec<u8>, AllocError>
-    ensures { IfOk result (λ new. new.items ≡ text.items ++ spec.rule_line (rule_text rule.entry)) }
+/// Appends the object of `rule`, which is judged in `judged`, and a line feed.
+pub fn push_object(text: Vec<u8>, judged: Judged, rule: Rule<'_>) -> Result<Vec<u8>, AllocError>
+    ensures { IfOk result (λ new. new.items ≡ text.items ++ spec.rule_line judged (rule_text rule.entry)) }
 {
     let mut writer = begin_line(text)?;
-    write_rule(&mut writer, rule)?;
+    write_rule(&mut writer, judged, rule)?;
     end_line(writer)
 }

@@ -6,6 +6,7 @@ ghost use Rattle.policies.specs.Views.{kind_text};
 ghost use Rattle.policy_lines.specs.Lines as spec;
 
 use policies::RuleKind;
+use policy_checks::Judged;
 use shown_texts::escaped;
 use std::alloc::{AllocError, Global};
 
@@ -81,12 +82,23 @@ pub(crate) fn push_kind(text: &mut Vec<u8>, kind: RuleKind<'_>) -> Result<(), Al
     }
 }
 
-/// Returns what breaks a rule of this kind.
-pub(crate) fn breach(kind: RuleKind<'_>) -> &'static str
-    ensures { result.now ≡ spec.breach (kind_text kind.entry) }
+/// Returns what breaks a `deny` that is judged in `judged`.
+fn denied_breach(judged: Judged) -> &'static str
+    ensures { result.now ≡ spec.denied_breach judged }
+{
+    match judged {
+        Judged::InBuild => ": it is on",
+        Judged::WithAll => ": it is on with all members, features and tests",
+        Judged::ForEveryChoice => ": some choice may break it",
+    }
+}
+
+/// Returns what breaks a rule of this kind that is judged in `judged`.
+pub(crate) fn breach(judged: Judged, kind: RuleKind<'_>) -> &'static str
+    ensures { result.now ≡ spec.breach judged (kind_text kind.entry) }
 {
     match kind {
-        RuleKind::Deny { feature: _, on: _ } => ": it is on",
+        RuleKind::Deny { feature: _, on: _ } => denied_breach(judged),
         RuleKind::Require { feature: _ } => ": it is off",
         RuleKind::DenyDuplicates { spec: _ } => ": several are built",
     }

@@ -1,11 +1,11 @@
 use Rattle.std.proofs.Common.{map, subst}
 use Rattle.std.proofs.lemmas.Result.{IfOk-weaker}
 use Rattle.cargo_workspaces.specs.Workspaces.{Text}
-use Rattle.feats_answers.specs.AnswerViews.{answer_text}
 use Rattle.feats_plans.specs.Inputs.{inputs_text}
 use Rattle.feats_plans.specs.Planning.{AfterPlanning, IsPlanningRefusal}
 use Rattle.feats_plans.proofs.Says.{if_err_more}
 use Rattle.policies.specs.Views.{rule_text}
+use Rattle.feats_tool.specs.AnsweredView.{answered_text}
 use Rattle.feats_tool.specs.Answers.{IsNoAnswer, IsPlanAnswer, IsPlanRefusal, of_plan}
 use Rattle.feats_tool.specs.Rules.{AreRules}
 use Rattle.feats_tool.proofs.answers.answer.Goals as goal
@@ -17,7 +17,7 @@ returns-clause-answer c =
     IfOk-weaker c.visit_plan.result _ _ (λ a h. record {
       rules = rules;
       are_rules = subst (λ (bytes : Text). AreRules inputs.arguments.question bytes rules) c.deref.ensures.value c.in_ok-rules.ensures.rules;
-      is_answer = subst (λ rs. AfterPlanning inputs c.args.bytes.now (λ p. IsPlanAnswer (map rule_text rs) p (answer_text a))) c.deref-2.ensures.value h;
+      is_answer = subst (λ rs. AfterPlanning inputs c.args.bytes.now (λ p. IsPlanAnswer (map rule_text rs) p (answered_text a))) c.deref-2.ensures.value h;
     }) c.visit_plan.ensures.output
 
 pub returns-clause-fault : goal.returns-clause-fault

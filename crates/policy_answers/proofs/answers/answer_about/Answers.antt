@@ -10,12 +10,13 @@ use Rattle.cargo_plans.specs.plan_steps.PlanViews.{plan_text}
 use Rattle.policy_answers.specs.Answers.{IsRefusalWith}
 use Rattle.policy_answers.specs.QuestionViews.{question_text}
 use Rattle.policy_answers.specs.Scenes.{scene_of}
+use Rattle.policy_checks.specs.declared.judged.Judged.TheVariants.{InBuild}
 use Rattle.policy_answers.proofs.Scened.{alone, unchecked}
 use Rattle.policy_answers.proofs.answers.answer_about.Goals as goal
 
 pub returns-in-None-clause-fault : goal.returns-in-None-clause-fault
 returns-in-None-clause-fault c =
     let asked = question_text c.args.asked in
-    let here = scene_of (workspace_text c.args.workspace.now) c.args.selected.now asked (words_text holds_on c.args.words.now) (plan_text c.args.plan.now) in
+    let here = scene_of (workspace_text c.args.workspace.now) c.args.selected.now asked (words_text holds_on c.args.words.now) (plan_text c.args.plan.now) InBuild in
     subst (λ (every : Option (Bor HeldSpecs)). IfErr c.printed_rules.result (λ f. Says f (IsRefusalWith here asked (option_map (λ held. holds_on held.now) every)))) (sym c.in-None.is)
-    (unchecked asked here None (record { here = here; widest = None }) (alone asked here) c.printed_rules.result c.printed_rules.ensures.fault)
+    (unchecked asked here None (record { here = here; wide = None }) (alone asked here) c.printed_rules.result c.printed_rules.ensures.fault)

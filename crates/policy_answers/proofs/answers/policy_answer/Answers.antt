@@ -8,6 +8,7 @@ use Rattle.plan_words.specs.Choices.{chosen_text}
 use Rattle.policy_answers.specs.Answers.{IsAnswerWith, IsPolicyRefusal, IsRefusalWith}
 use Rattle.policy_answers.specs.QuestionViews.{printed_text, question_text}
 use Rattle.policy_answers.specs.Scenes.{scene_of}
+use Rattle.policy_checks.specs.declared.judged.Judged.TheVariants.{InBuild}
 use Rattle.policy_answers.proofs.Scened.{err_more}
 use Rattle.policy_answers.proofs.answers.policy_answer.Goals as goal
 
@@ -20,7 +21,7 @@ returns-in-Ok-clause-answer c =
     IfOk-weaker c.answer_about.result _ _ (λ printed is. record {
       chosen = chosen_text c.in-Ok.chosen;
       are_accepted = c.in-Ok.ensures.chosen;
-      holds = subst (λ (numbers : List ℕ). IsAnswerWith (scene_of w numbers asked words plan) asked asked.every (printed_text printed)) c.deref.ensures.value is;
+      holds = subst (λ (numbers : List ℕ). IsAnswerWith (scene_of w numbers asked words plan InBuild) asked asked.every (printed_text printed)) c.deref.ensures.value is;
     }) c.answer_about.ensures.answer
 
 pub returns-in-Ok-clause-fault : goal.returns-in-Ok-clause-fault
@@ -29,9 +30,9 @@ returns-in-Ok-clause-fault c =
     let words = words_text holds_on c.args.words.now in
     let plan = plan_text c.args.plan.now in
     let asked = question_text c.args.asked in
-    err_more c.answer_about.result (IsRefusalWith (scene_of w c.deref.result.now asked words plan) asked asked.every) (IsPolicyRefusal w words plan asked)
+    err_more c.answer_about.result (IsRefusalWith (scene_of w c.deref.result.now asked words plan InBuild) asked asked.every) (IsPolicyRefusal w words plan asked)
     (λ m says. record {
       chosen = chosen_text c.in-Ok.chosen;
       are_accepted = c.in-Ok.ensures.chosen;
-      holds = subst (λ (numbers : List ℕ). IsRefusalWith (scene_of w numbers asked words plan) asked asked.every m) c.deref.ensures.value says;
+      holds = subst (λ (numbers : List ℕ). IsRefusalWith (scene_of w numbers asked words plan InBuild) asked asked.every m) c.deref.ensures.value says;
     }) c.answer_about.ensures.fault

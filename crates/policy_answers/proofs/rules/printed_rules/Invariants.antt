@@ -9,4 +9,4 @@ use Rattle.policy_answers.proofs.rules.printed_rules.Given as goal
 abbrev pub invariant-loop-rule : goal.invariant-loop-rule
 invariant-loop-rule l =
     let asked = question_text l.asked in
-    IsSo asked (scenes_by (workspace_text l.workspace) l.selected asked l.here l.widest) (map rule_text (take l.rule-index l.asked.rules.now)) l.printed.text.items l.printed.is_broken
+    IsSo asked (scenes_by (workspace_text l.workspace) l.selected asked l.here l.wide) (map rule_text (take l.rule-index l.asked.rules.now)) l.printed.text.items l.printed.is_broken

@@ -7,7 +7,7 @@ use Rattle.policy_lines.proofs.objects.push_object.Goals as goal
 
 pub returns : goal.returns
 returns c =
-    let members = rule_members (rule_text c.args.rule) in
+    let members = rule_members c.args.judged (rule_text c.args.rule) in
     ended c.end_line.result (λ v. v.items) c.write_rule.new.writer c.args.text.items (begin_object ∷ members)
     (c.in_ok-write_rule.ensures.before ∙ c.in_ok-writer.ensures.before)
     (c.in_ok-write_rule.ensures.tokens ∙ ap (λ (tokens : List Token). tokens ++ members) c.in_ok-writer.ensures.tokens)

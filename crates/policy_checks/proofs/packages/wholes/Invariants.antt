@@ -1,7 +1,7 @@
 use Rattle.std.proofs.Common.{◌≡◌, ◌++◌, ℕ, map, drop}
 use Rattle.plan_names.specs.Names.{of_package, whole}
 use Rattle.plan_names.specs.Views.{named_text}
-use Rattle.policy_checks.proofs.found.wholes.Given as goal
+use Rattle.policy_checks.proofs.packages.wholes.Given as goal
 
 abbrev pub invariant-loop-number : goal.invariant-loop-number
 invariant-loop-number l =

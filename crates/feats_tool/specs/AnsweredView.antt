@@ -1,0 +1,8 @@
+-- The value that an answer with its warnings contains.
+use Rattle.feats_answers.specs.AnswerViews.{answer_text}
+use Rattle.policy_answers.specs.WarningViews.{string_texts}
+use Rattle.feats_tool.specs.Answers.{AnsweredText}
+use Rattle.feats_tool.specs.declared.answered.Answered.{Answered}
+
+abbrev pub answered_text : Answered → AnsweredText
+answered_text a = record { answer = answer_text a.answer; warnings = string_texts a.warnings.items }
