@@ -183,7 +183,10 @@ fn outcome(ended: Ended, is_closed: bool) -> Result<bool, Fault> {
 fn warn(rt: &HostRuntime, warnings: &[String]) {
     for warning in warnings {
         // A failed write to standard error can't be reported anywhere.
-        let _ = eprintln!(rt; "feats: {warning}");
+        let _ = match shown_message(rt.alloc(), warning) {
+            Ok(shown) => eprintln!(rt; "feats: {shown}"),
+            Err(_) => eprintln!(rt; "feats: out of memory for a warning"),
+        };
     }
 }
 

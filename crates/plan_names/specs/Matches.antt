@@ -6,8 +6,8 @@ use Rattle.plan_words.specs.FeatureWords.{is_slash}
 use Rattle.plan_words.specs.PackageWords.{numbers_from, packages_of_word}
 use Rattle.plan_words.specs.PackageWords as words
 use Rattle.plan_names.specs.Faults.{NameRefusal, several, unknown}
+use Rattle.plan_words.specs.Patterns.{fits, is_star}
 use Rattle.plan_names.specs.Names.{NamedText, of_package, or_else, parts_among, parts_anywhere, whole}
-use Rattle.plan_names.specs.Patterns.{fits, is_star}
 
 abbrev pub has_name_like : Text → PackageText → Bool
 has_name_like pattern p = fits pattern p.name

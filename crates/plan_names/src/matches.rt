@@ -7,17 +7,16 @@ ghost use Rattle.plan_words.specs.PackageWords.{numbers_from};
 ghost use Rattle.plan_names.specs.Faults.{Gives};
 ghost use Rattle.plan_names.specs.Matches as spec;
 ghost use Rattle.plan_names.specs.Names.{parts_among};
-ghost use Rattle.plan_names.specs.Patterns.{is_star};
+ghost use Rattle.plan_words.specs.Patterns.{is_star};
 ghost use Rattle.plan_names.specs.Views.{named_text};
 
 use crate::fault::NameFault;
 use crate::named::Named;
 use crate::parts::parts_among;
-use crate::patterns::fits;
 use crate::word_cuts::{Cut, cut_word};
 use crate::words::{parts_of_name, wholes};
 use cargo_workspaces::{Package, Workspace};
-use plan_words::packages_of_word;
+use plan_words::{fits, packages_of_word};
 use std::alloc::{AllocError, Global};
 
 /// Returns the numbers of the packages whose names fit `pattern`, ascending.
