@@ -333,6 +333,8 @@ class Plan:
         self.starts = self.built_starts()
         self.check_document()
         self.built = {entry for entry, _, _ in visited(self.built_table(), [(it, 'base', '') for it in self.starts])}
+        # the sides on which each package is built
+        self.built_sides = {(self.side_of(place), id) for place, id in self.built}
 
     def starts_of(self, places):
         return [((place, id), 'feature', COMMAND) for place in places for id in self.commands]

@@ -59,6 +59,11 @@ def sides_of(plan, package, kind, name):
     return [side for side in (TARGET, HOST) if plan is not None and ((side, package), kind, name) in plan.on]
 
 
+def built_sides_of(plan, package, kind, name):
+    """The sides on which a part of a package is on, and the package is built."""
+    return [side for side in sides_of(plan, package, kind, name) if (side, package) in plan.built_sides]
+
+
 def parts_of(document):
     """Every part of every package of the document."""
     for id, package in document.packages.items():
