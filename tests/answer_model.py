@@ -8,8 +8,8 @@
 the places in which it holds. The places are the host and the targets.
 
 `list`: each feature of a package, in the order of the bytes of the names, and then each name of an optional declaration, in the order of the
-declarations. A feature is on, on a side, if its node is in the visit of the table `on` (docs/PLANS.md). The word for it says on which sides
-if the package itself is on, on both sides. SPEC is the id of a package, its name, or NAME@VERSION.
+declarations. A feature is on, on a side, if its node is in the visit of the table `on` (docs/PLANS.md) and its package is built in a place of
+the side. The word for it says on which sides if the package itself is built on both sides. SPEC is the id of a package, its name, or NAME@VERSION.
 """
 import json
 import sys
@@ -85,8 +85,8 @@ def specs_objects(document, selection):
 # The features of a package.
 
 def sides_of(plan, id, kind, name):
-    """Whether a node of a package is on, on the side of targets and on that of the host."""
-    return tuple(((side, id), kind, name) in plan.on for side in (TARGET, HOST))
+    """Whether a node of a package is on and built, on the side of targets and on that of the host."""
+    return tuple(((side, id), kind, name) in plan.on and (side, id) in plan.built_sides for side in (TARGET, HOST))
 
 
 def listed_features(plan, id):

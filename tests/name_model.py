@@ -27,9 +27,9 @@ def version_fits(word, version):
 
 
 def spec_fits(word, package):
-    """Whether a word is a package's name, or `NAME@VERSION`."""
-    name, at, version = word.partition("@")
-    return name == package["name"] and (not at or version_fits(version, package["version"]))
+    """Whether a word is a package's name, `NAME@VERSION` or `NAME:VERSION`."""
+    name, rest = word[:len(package["name"])], word[len(package["name"]):]
+    return name == package["name"] and (not rest or rest[0] in "@:" and version_fits(rest[1:], package["version"]))
 
 
 def packages_named(document, word):
@@ -137,6 +137,11 @@ WORKED = [
     ([APP], "clap@4.0.3", ("unknown",)),
     ([APP], "clap@4.1.0-rc.1", ("named", [(PRE, None)])),
     ([APP], "log@0.4.17", ("named", [(LOG, None)])),
+    ([APP], "clap:3", ("named", [(OLD, None)])),
+    ([APP], "clap:4", ("named", [(NEW, None)])),
+    ([APP], "clap:", ("unknown",)),
+    ([APP], "clap3", ("unknown",)),
+    ([APP], "clap::4", ("unknown",)),
     # a name in a spec; an id is cut at the last slash
     ([APP], "app/tls", ("named", [(APP, "tls")])),
     ([APP], APP + "/tls", ("named", [(APP, "tls")])),

@@ -73,7 +73,7 @@ def word_faults():
     yield 'a host without a file', ['plan', '--metadata', '-', '--host', HOST], f'`{HOST}` {shape}'
     yield 'a target without a file', [*usual, '--target', WINDOWS], f'`{WINDOWS}` {shape}'
     yield 'a resolver', [*usual, '--resolver', '4'], "`4` isn't a version of the resolver: write 1, 2 or 3"
-    yield 'two resolvers', [*usual, '--resolver', '1', '--manifest', '{none}'], '--resolver and --manifest are both given: leave one out'
+    yield 'two resolvers', [*usual, '--resolver', '1', '--manifest', '{none}'], '--resolver and a manifest are both given: leave one out'
     yield 'a format', [*usual, '--format', 'xml'], "`xml` isn't a format: write text or json"
     for word in ('json', 'text', 'xml'):
         yield f'the format {word} of dot', ['dot', *usual[1:], '--format', word], '`dot` prints a graph for Graphviz: leave --format out'
@@ -127,6 +127,9 @@ def plan_faults(cases):
     manifest = 'look it up in its manifest'
     needs = 'features are asked for, and no selected package is a member of the workspace: select a member, or leave the features out'
     at = 'path+file:///w'
+    for word in ([], ['-F', 'no']):
+        yield f'no selected package{"".join(word)}', cases['no-default'], word, (
+            'no package is selected: the workspace has no default members, or no members at all; select packages by -p or --workspace')
     yield 'no package', command, ['-p', 'nobody'], 'no package of the document fits `nobody`: write NAME, NAME@VERSION or an id'
     yield 'the second word', command, ['-p', 'tool', '-p', 'tool@2'], 'no package of the document fits `tool@2`: write NAME, NAME@VERSION or an id'
     ids = f'\n  {at}/ext/new#old@1.10.0\n  {at}/ext/old#1.2.3'
@@ -143,9 +146,9 @@ def plan_faults(cases):
         f"package {at}/ext/tested#0.1.0 isn't a member of the workspace, and its tests need its dependencies for development: leave --tests out"
     yield 'a package that is not on', others, ['-p', 'tested'], \
         f"package {at}/ext/tested#0.1.0 isn't built for the target: select a member that depends on it too"
-    yield 'a package that is missing', lacking, ['-F', 'b/g'], \
-        f'the document has no package for the optional dependency `leaf` of {at}/ext/b#0.1.0: make it by ' \
-        '`cargo metadata --format-version 1 --all-features --features WORDS` with the words of the selection'
+    made = 'make it by `cargo metadata --format-version 1 --all-features --features WORDS` with the words of the selection'
+    for case, word, name in ((lacking, 'b/g', 'leaf'), (cases['several-fit'], 'b/old', 'old')):
+        yield f'no package for {name}', case, ['-F', word], f'the document has no package for the optional dependency `{name}` of {at}/ext/b#0.1.0: {made}'
 
 
 # Manifests, each with the resolver that Cargo takes from it.

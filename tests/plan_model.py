@@ -33,6 +33,10 @@ class Lacking(Refused):
 
 # The document, by docs/METADATA.md.
 
+def is_macro_target(target):
+    return 'proc-macro' in target['kind'] + target.get('crate_types', [])
+
+
 class Declaration(NamedTuple):
     name: str
     kind: str               # 'normal', 'build' or 'dev'
@@ -54,6 +58,9 @@ class Package(NamedTuple):
 
     def is_macro(self):
         return any('proc-macro' in it['kind'] for it in self.targets)
+
+    def has_macro(self):
+        return any(is_macro_target(it) for it in self.targets)
 
     def has_script(self):
         return any('custom-build' in it['kind'] for it in self.targets)
@@ -111,7 +118,7 @@ def lead_of(packages, package, uses, declared):
     if len(used) != 1:
         candidates = used or (fitting if declared['optional'] else [])
         used = [it for it in candidates if admits(declared['req'], packages[it['pkg']]['version'])]
-    return used[0]['pkg'] if used else None
+    return used[0]['pkg'] if len(used) == 1 else None
 
 
 def document_of(value):
@@ -224,10 +231,14 @@ def is_version(word, version):
     return word in (version, numbers) or '-' not in numbers and numbers.startswith(f'{word}.')
 
 
+def is_spec(word, package):
+    """Whether `word` is the package's name, or its name, `@` or `:`, and a version."""
+    name, mark, version = re.fullmatch('([^@:]*)([@:]?)(.*)', word, re.DOTALL).groups()
+    return name == package.name and (not mark or is_version(version, package.version))
+
+
 def packages_named(document, word):
-    name, at, version = word.partition('@')
-    return [id for id, it in document.packages.items() if id == word] or [
-        id for id, it in document.packages.items() if it.name == name and (not at or is_version(version, it.version))]
+    return [id for id in document.packages if id == word] or [id for id, it in document.packages.items() if is_spec(word, it)]
 
 
 def package_named(document, word):
@@ -243,10 +254,11 @@ def is_ambiguous(value, words):
 
 
 def selected_packages(document, selection):
-    if selection.is_workspace:
-        return document.members
     if selection.words is None:
-        return document.default_members
+        selected = document.members if selection.is_workspace else document.default_members
+        if not selected:
+            raise Refused('no package is selected')
+        return selected
     return [package_named(document, it) for it in selection.words]
 
 
@@ -391,7 +403,7 @@ class Plan:
     def on_starts(self):
         starts = self.starts_of([TARGET])
         if self.selection.is_split:
-            starts += [it for it in self.starts_of([HOST]) if self.packages[it[0][1]].is_macro()]
+            starts += [it for it in self.starts_of([HOST]) if self.packages[it[0][1]].has_macro()]
         return starts
 
     def features(self, side, id):
@@ -466,8 +478,7 @@ class Plan:
             for target in package.targets:
                 if not self.is_chosen(package, target):
                     continue
-                is_for_host = 'proc-macro' in target['kind']
-                for place in [HOST] if is_for_host else range(len(self.selection.platforms())):
+                for place in [HOST] if is_macro_target(target) else range(len(self.selection.platforms())):
                     self.check_on(place, id)
                     starts[place, id] = self.selection.is_test
                     if package.is_macro():

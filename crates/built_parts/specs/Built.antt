@@ -28,6 +28,10 @@ is_same_side Host Host = true
 abbrev pub is_built : Bool → List UnitText → Side → ℕ → Bool
 is_built split units side p = list_any (λ u. is_same_side (side_at split u.place) side && nat_eq u.number p) units
 
+-- Whether a part of package `p` is built on a side.
+abbrev pub is_part_built : Bool → PlanText → Side → ℕ → LabelName → Bool
+is_part_built split plan side p label = is_on plan.on side p label && is_built split plan.units side p
+
 -- The state of a part, if it is on or not, and if its package is built or not.
 abbrev pub state_if : Bool → Bool → PartState
 state_if false built = Off

@@ -1,2 +1,3 @@
 pub mod Built
 pub mod BuiltViews
+pub mod Scripts

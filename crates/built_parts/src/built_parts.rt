@@ -5,7 +5,7 @@ ghost use Rattle.plan_steps.specs.PlanViews.{plan_text};
 ghost use Rattle.plan_steps.specs.plan_starts.PackageVisits.{is_on};
 ghost use Rattle.plan_steps.specs.plan_units.UnitViews.{unit_text};
 ghost use Rattle.built_parts.specs.Built as spec;
-ghost use Rattle.built_parts.specs.BuiltViews.{builds_in, flag_at, state_in};
+ghost use Rattle.built_parts.specs.BuiltViews.{builds_in, flag_at, is_built_in, state_in};
 
 use crate::flags::{flag_of, mark};
 use crate::state::PartState;
@@ -15,13 +15,23 @@ use plan_steps::{PackageVisit, Place, Plan, Side, Unit};
 use std::alloc::{AllocError, Global};
 
 /// The parts of packages that are on in a plan, and which packages it builds on each side.
-#[derive(Drop)]
 pub struct BuiltParts<'p> {
     pub(crate) on: &'p PackageVisit,
-    /// Whether each package is built for a target platform, by its number. A package past the end isn't.
+    /// Whether each package is built in a place of the target side, by its number. A package past the end isn't.
     pub(crate) target: Vec<bool>,
     /// The same for the host side.
     pub(crate) host: Vec<bool>,
+}
+
+impl Drop for BuiltParts<'_> {
+    // Written out, so that a crate above calls it. A derived drop is proved in each crate that drops a value, with those of all fields.
+    fn drop(self) {
+        let BuiltParts {
+            on: _on,
+            target: _target,
+            host: _host,
+        } = self;
+    }
 }
 
 /// Returns the side whose features `place` has. `split` is whether the resolver tells the sides apart.
@@ -71,6 +81,7 @@ impl<'p> BuiltParts<'p> {
         plan: &'p Plan<'_>,
     ) -> Result<BuiltParts<'p>, AllocError>
         ensures parts { IfOk result (λ parts. state_in parts ≡ spec.state_of split (plan_text plan.entry.now)) }
+        ensures built { IfOk result (λ parts. is_built_in parts ≡ spec.is_part_built split (plan_text plan.entry.now)) }
         ensures packages { IfOk result (λ parts. builds_in parts ≡ spec.is_built split (plan_text plan.entry.now).units) }
     {
         let target = built_on(alloc, split, Side::Target, plan.units())?;
@@ -101,6 +112,13 @@ impl<'p> BuiltParts<'p> {
             FeatureLabel::Named(name) => self.on.has_feature(side, ix, name),
             FeatureLabel::OptionalDependency(name) => TurnedOn::is_on(self.on, side, ix, name),
         }
+    }
+
+    /// Returns whether `label` of package `ix` is on, on `side`, and the package is built there.
+    pub fn is_built(&self, side: Side, ix: usize, label: FeatureLabel<'_>) -> bool
+        ensures { result ≡ is_built_in self.now side ix (label_of label.entry) }
+    {
+        self.is_on(side, ix, label) && self.builds(side, ix)
     }
 
     /// Returns the state of `label` of package `ix` on `side`.

@@ -3,7 +3,9 @@
 
 mod built_parts;
 mod flags;
+mod scripts;
 mod state;
 
 pub use built_parts::BuiltParts;
+pub use scripts::LackingScripts;
 pub use state::PartState;

@@ -2,6 +2,7 @@ pub mod AnswerTexts
 pub mod AnswerViews
 pub mod Answers
 pub mod Asked
+pub mod BuiltSpots
 pub mod DuplicateTexts
 pub mod EdgeTexts
 pub mod FeatureTexts

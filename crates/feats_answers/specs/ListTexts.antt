@@ -1,25 +1,25 @@
 -- The text about the features of a package.
 use Rattle.std.specs.Prelude.{◌≡◌, ℕ, Bool, Ok, Some, slice_get}
 use Rattle.feature_labels.specs.Names.{LabelName}
+use Rattle.built_parts.specs.Built.{is_part_built}
 use Rattle.cargo_workspaces.specs.Workspaces.{Text, PackageText, WorkspaceText}
 use Rattle.feature_lists.specs.Lines.{feature_lines}
 use Rattle.feature_lists.specs.Objects.{feature_objects}
 use Rattle.plan_names.specs.Faults.{package_named}
 use Rattle.plan_rows.specs.declared.side.Side.{Side}
-use Rattle.cargo_plans.specs.plan_starts.PackageVisits.{is_on}
 use Rattle.cargo_plans.specs.plan_steps.Plans.{PlanText}
 use Rattle.feats_words.specs.declared.command_arguments.Format.{Format}
 use Rattle.feats_words.specs.declared.command_arguments.Format.TheVariants as format
 
--- The text about a package, if `on side label` is whether a label of it is on.
+-- The text about a package, if `on side label` is whether a label of it is built.
 abbrev pub feature_text : Format → (Side → LabelName → Bool) → PackageText → Text
 feature_text format.Text on p = feature_lines on p
 feature_text format.Json on p = feature_objects on p
 
--- The text about the package that a word names.
-pub record IsListText (form : Format) (w : WorkspaceText) (plan : PlanText) (word text : Text) : Type 0 where
+-- The text about the package that a word names: its features are on where they are built.
+pub record IsListText (form : Format) (w : WorkspaceText) (split : Bool) (plan : PlanText) (word text : Text) : Type 0 where
   pub number : ℕ
   pub described : PackageText
   pub is_named : package_named w.packages word ≡ Ok number
   pub is_package : slice_get w.packages number ≡ Some described
-  pub is_text : text ≡ feature_text form (λ side. is_on plan.on side number) described
+  pub is_text : text ≡ feature_text form (λ side. is_part_built split plan side number) described

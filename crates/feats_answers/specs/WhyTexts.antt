@@ -1,5 +1,7 @@
 -- The text about why a feature is on.
-use Rattle.std.specs.Prelude.{◌≡◌, List, [], ◌∷◌, Bool, true, false, flat_map, Option, None, Some, codes}
+use Rattle.std.specs.Prelude.{◌≡◌, List, [], ◌∷◌, ◌++◌, Bool, true, false, flat_map, Option, None, Some, codes}
+use Rattle.built_parts.specs.Built.{is_part_built, state_of}
+use Rattle.built_parts.specs.declared.state.PartState.TheVariants.{Built}
 use Rattle.cargo_workspaces.specs.Workspaces.{Text, PackageText, WorkspaceText}
 use Rattle.cargo_plans.specs.Plans.{WordsText}
 use Rattle.plan_names.specs.Names.{NamedText}
@@ -16,6 +18,7 @@ use Rattle.why_lines.specs.Settings.{SettingsText}
 use Rattle.feats_words.specs.declared.command_arguments.Format.{Format}
 use Rattle.feats_words.specs.declared.command_arguments.Format.TheVariants as format
 use Rattle.feats_answers.specs.AnswerTexts.{AnswerText}
+use Rattle.feats_answers.specs.BuiltSpots.{spots_in, unbuilt_text_of}
 use Rattle.feats_answers.specs.Gathered.{AreShown, gathered}
 use Rattle.feats_answers.specs.Parts.{ArePartsOf, spot_on}
 
@@ -62,11 +65,36 @@ spots_of_part part = spot_on Target part ∷ spot_on Host part ∷ []
 abbrev pub off_end : Text
 off_end = codes " is off in this build: ask why-not\n"
 
--- The answer to `why` with this word: why each part that it names is on, side by side. If none is on, it says no. With `all` it has every
--- direct reason of each step.
+-- The text, unless it is empty.
+abbrev pub unless_empty : Text → List Text
+unless_empty [] = []
+unless_empty (b ∷ bs) = (b ∷ bs) ∷ []
+
+abbrev pub is_none : List Text → Bool
+is_none [] = true
+is_none (first ∷ more) = false
+
+-- These texts. If there is none, the line that says no.
+abbrev pub gathered_why : Format → List PackageText → Text → List NamedText → List Text → AnswerText
+gathered_why form packages word parts texts = gathered form packages word parts off_end texts
+
+-- The answer of the texts that explain what is built, and then of the lines about what isn't. It is negative if nothing is built.
+abbrev pub answer_of : Format → List PackageText → Text → List NamedText → List Text → Text → AnswerText
+answer_of form packages word parts shown lines = record {
+  content = (gathered_why form packages word parts (shown ++ unless_empty lines)).content;
+  is_negative = is_none shown;
+}
+
+-- The answer to `why` with a word that names these parts: why each that is built is on, side by side, and then a line for each that is on
+-- and not built. With `all` it has every direct reason of each step.
+pub record IsWhyAnswerOf (form : Format) (all : Bool) (w : WorkspaceText) (words : WordsText) (plan : PlanText) (word : Text) (parts : List NamedText) (answer : AnswerText) : Type 0 where
+  pub shown : List Text
+  pub are_shown : AreShown (IsSpotShown form all w words plan) (spots_in (state_of words.selection.split plan) Built (flat_map spots_of_part parts)) shown
+  pub is_answer : answer ≡ answer_of form w.packages word parts shown
+      (unbuilt_text_of form w.packages words (state_of words.selection.split plan) (is_part_built words.selection.split plan) (flat_map spots_of_part parts))
+
+-- The answer to `why` with this word.
 pub record IsWhyAnswer (form : Format) (all : Bool) (w : WorkspaceText) (words : WordsText) (plan : PlanText) (word : Text) (answer : AnswerText) : Type 0 where
   pub parts : List NamedText
   pub are_parts : ArePartsOf w words word parts
-  pub shown : List Text
-  pub are_shown : AreShown (IsSpotShown form all w words plan) (flat_map spots_of_part parts) shown
-  pub is_answer : answer ≡ gathered form w.packages word parts off_end shown
+  pub is_answer : IsWhyAnswerOf form all w words plan word parts answer

@@ -7,7 +7,7 @@ ghost use Rattle.feats_answers.specs.AnswerViews.{answer_text};
 #[derive(Drop)]
 pub struct Answer {
     pub text: Vec<u8>,
-    /// True for `why` if nothing that the word names is on, for `why-not` if all of it is on, for `tree` if what the word names isn't built
+    /// True for `why` if nothing that the word names is built, for `why-not` if all of it is on, for `tree` if what the word names isn't built
     /// or is off, and for `check` if a rule is broken.
     pub is_negative: bool,
 }

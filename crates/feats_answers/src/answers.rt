@@ -34,7 +34,7 @@ use crate::parts::parts_of;
 use crate::plan_texts::text_of_units;
 use crate::policy_texts::{PolicyWord, check_answer};
 use crate::spec_texts::spec_text;
-use crate::why_texts::why_texts;
+use crate::why_texts::{WhyQuestion, why_answer_of};
 use cargo_plans::{Plan, PlanWords};
 use cargo_workspaces::Workspace;
 use feats_files::{Fault, PlatformFile};
@@ -77,13 +77,14 @@ fn list_answer(
     alloc: Global,
     format: Format,
     workspace: &Workspace<'_>,
+    split: bool,
     plan: &Plan<'_>,
     word: &str,
 ) -> Result<Answer, Fault>
-    ensures answer { IfOk result (λ answer. IsPositive (IsListText format (workspace_text workspace.now) (plan_text plan.now) word.now) (answer_text answer)) }
+    ensures answer { IfOk result (λ answer. IsPositive (IsListText format (workspace_text workspace.now) split (plan_text plan.now) word.now) (answer_text answer)) }
     ensures fault { IfErr result (λ fault. Says fault (IsNameRefusal (workspace_text workspace.now).packages (package_named (workspace_text workspace.now).packages word.now))) }
 {
-    match list_text(alloc, format, workspace, plan, word) {
+    match list_text(alloc, format, workspace, split, plan, word) {
         Ok(text) => Ok(positive(text)),
         Err(fault) => Err(fault),
     }
@@ -120,9 +121,8 @@ fn why_answer<'w>(
     ensures fault { IfErr result (λ fault. Says fault (IsPartRefusal (workspace_text workspace.now) (words_text holds_on words.now) word.now)) }
 {
     let named = parts_of(alloc, workspace, words, word)?;
-    let texts = why_texts(alloc, format, all, workspace, words, plan, &named)?;
-    let end = " is off in this build: ask why-not\n";
-    Ok(gathered(alloc, format, workspace, word, &named, end, &texts)?)
+    let asked = WhyQuestion { format, word, all };
+    Ok(why_answer_of(alloc, asked, workspace, words, plan, &named)?)
 }
 
 /// Returns the answer to `why-not` with this word. `specs` are the platform specs of the workspace.
@@ -191,7 +191,10 @@ pub fn answer_to<'w, 'n, 's>(
             why_not_answer(alloc, format, workspace, specs, words, plan, word)
         }
         Question::Specs => Ok(specs_answer(alloc, format, files, specs, words)?),
-        Question::List(word) => list_answer(alloc, format, workspace, plan, word),
+        Question::List(word) => {
+            let split = words.selection.split;
+            list_answer(alloc, format, workspace, split, plan, word)
+        }
         Question::Duplicates { alone } => Ok(duplicates_answer(
             alloc, format, alone, files, workspace, words, plan,
         )?),

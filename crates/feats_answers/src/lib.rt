@@ -4,6 +4,7 @@
 mod answer;
 mod answers;
 mod asked;
+mod built_spots;
 mod duplicate_texts;
 mod edge_texts;
 mod feature_texts;

@@ -3,14 +3,15 @@ ghost use Rattle.std.specs.Prelude.{◌≡◌, ◌<◌, Ok, IfOk, IfErr, length,
 ghost use Rattle.cargo_workspaces.specs.Views.{package_text};
 ghost use Rattle.cargo_workspaces.specs.WorkspaceView.{workspace_text};
 ghost use Rattle.plan_names.specs.Faults.{package_named};
-ghost use Rattle.cargo_plans.specs.plan_starts.PackageVisits.{is_on};
+ghost use Rattle.built_parts.specs.Built.{is_part_built};
 ghost use Rattle.cargo_plans.specs.plan_steps.PlanViews.{plan_text};
 ghost use Rattle.feats_files.specs.Messages.{Says};
 ghost use Rattle.feats_answers.specs.ListTexts as spec;
 ghost use Rattle.feats_answers.specs.NameMessages.{IsNameRefusal};
 
-use crate::labels_on::labels_of;
+use crate::labels_on::BuiltLabels;
 use crate::name_messages::name_refused;
+use built_parts::BuiltParts;
 use cargo_plans::Plan;
 use cargo_workspaces::{Package, Workspace};
 use feats_files::Fault;
@@ -23,13 +24,15 @@ use std::alloc::{AllocError, Global};
 fn package_features(
     alloc: Global,
     format: Format,
+    split: bool,
     plan: &Plan<'_>,
     ix: usize,
     package: &Package<'_>,
 ) -> Result<Vec<u8>, AllocError>
-    ensures { IfOk result (λ text. text.items ≡ spec.feature_text format (λ side. is_on (plan_text plan.now).on side ix) (package_text «package».now)) }
+    ensures { IfOk result (λ text. text.items ≡ spec.feature_text format (λ side. is_part_built split (plan_text plan.now) side ix) (package_text «package».now)) }
 {
-    let on = labels_of(plan);
+    let parts = BuiltParts::of_plan(alloc, split, plan)?;
+    let on = BuiltLabels { parts: &parts };
     match format {
         Format::Text => Ok(feature_lines(alloc, ix, package, &on)?.into_bytes()),
         Format::Json => feature_objects(alloc, ix, package, &on),
@@ -64,15 +67,16 @@ pub(crate) fn list_text(
     alloc: Global,
     format: Format,
     workspace: &Workspace<'_>,
+    split: bool,
     plan: &Plan<'_>,
     word: &str,
 ) -> Result<Vec<u8>, Fault>
-    ensures text { IfOk result (λ text. spec.IsListText format (workspace_text workspace.now) (plan_text plan.now) word.now text.items) }
+    ensures text { IfOk result (λ text. spec.IsListText format (workspace_text workspace.now) split (plan_text plan.now) word.now text.items) }
     ensures fault { IfErr result (λ fault. Says fault (IsNameRefusal (workspace_text workspace.now).packages (package_named (workspace_text workspace.now).packages word.now))) }
 {
     let ix = number_of(alloc, workspace, word)?;
     match package_at(workspace, ix) {
-        Some(package) => Ok(package_features(alloc, format, plan, ix, package)?),
+        Some(package) => Ok(package_features(alloc, format, split, plan, ix, package)?),
         None => Err(Fault::Memory),
     }
 }

@@ -1,5 +1,7 @@
 //! The text about why a feature is on.
 ghost use Rattle.std.specs.Prelude.{◌≡◌, ◌++◌, List, IfOk, OnOk, flat_map, map};
+ghost use Rattle.built_parts.specs.BuiltViews.{state_in};
+ghost use Rattle.built_parts.specs.declared.state.PartState.TheVariants.{Built};
 ghost use Rattle.cargo_workspaces.specs.Workspaces.{Text};
 ghost use Rattle.cargo_workspaces.specs.WorkspaceView.{workspace_text};
 ghost use Rattle.cargo_plans.specs.Plans.{IsPlanOf};
@@ -9,11 +11,16 @@ ghost use Rattle.plan_platforms.specs.HeldSpecs.{holds_on};
 ghost use Rattle.cargo_plans.specs.plan_steps.PlanViews.{plan_text};
 ghost use Rattle.plan_whys.specs.StepViews.{found_text, reasoned_text as reasoned_view, spot_text, why_text};
 ghost use Rattle.why_lines.specs.Settings.{settings_text};
-ghost use Rattle.feats_answers.specs.AnswerViews.{texts_of};
+ghost use Rattle.feats_answers.specs.AnswerViews.{answer_text, texts_of};
+ghost use Rattle.feats_answers.specs.BuiltSpots.{spots_in};
 ghost use Rattle.feats_answers.specs.Gathered.{AreShown};
 ghost use Rattle.feats_answers.specs.WhyTexts as spec;
 
+use crate::answer::Answer;
+use crate::built_spots::{those_in, unbuilt_text_of};
+use crate::gathered::gathered;
 use crate::parts::spot_on;
+use built_parts::{BuiltParts, PartState};
 use cargo_plans::{Plan, PlanWords, Side};
 use cargo_workspaces::Workspace;
 use feats_words::Format;
@@ -155,20 +162,112 @@ pub(crate) fn spots_of<'w>(alloc: Global, named: &[Named<'w>]) -> Result<Vec<Spo
     Ok(spots)
 }
 
-/// Returns the texts of why each of `named` is on in `plan`, side by side. With `all` they have every direct reason of each step.
-pub(crate) fn why_texts(
+/// Returns the texts of why each of `spots` is on in `plan`, spot by spot. With `all` they have every direct reason of each step.
+fn spot_texts(
     alloc: Global,
     format: Format,
     all: bool,
     workspace: &Workspace<'_>,
     words: &PlanWords<'_, '_, HeldSpecs<'_>>,
     plan: &Plan<'_>,
-    named: &[Named<'_>],
+    spots: &[Spot<'_>],
 ) -> Result<Vec<Vec<u8>>, AllocError>
     requires plan { IsPlanOf (workspace_text workspace.now) (words_text holds_on words.now) (plan_text plan.now) }
-    ensures { IfOk result (λ texts. AreShown (spec.IsSpotShown format all (workspace_text workspace.now) (words_text holds_on words.now) (plan_text plan.now)) (flat_map spec.spots_of_part (map named_text named.now)) (texts_of texts.items)) }
+    ensures { IfOk result (λ texts. AreShown (spec.IsSpotShown format all (workspace_text workspace.now) (words_text holds_on words.now) (plan_text plan.now)) (map spot_text spots.now) (texts_of texts.items)) }
 {
-    let spots = spots_of(alloc, named)?;
-    let founds = why_each(alloc, workspace, words, plan, &spots)?;
+    let founds = why_each(alloc, workspace, words, plan, spots)?;
     founds_shown(alloc, format, all, workspace, words, plan, &founds)
+}
+
+/// What `why` is asked for.
+#[derive(Clone, Copy)]
+pub(crate) struct WhyQuestion<'a> {
+    pub(crate) format: Format,
+    pub(crate) word: &'a str,
+    /// Whether every direct reason of each step is asked for.
+    pub(crate) all: bool,
+}
+
+/// Returns the texts of why those of `spots` are on that are built in `plan`, whose parts are `parts`.
+fn built_texts(
+    alloc: Global,
+    asked: WhyQuestion<'_>,
+    workspace: &Workspace<'_>,
+    words: &PlanWords<'_, '_, HeldSpecs<'_>>,
+    plan: &Plan<'_>,
+    parts: &BuiltParts<'_>,
+    spots: &[Spot<'_>],
+) -> Result<Vec<Vec<u8>>, AllocError>
+    requires plan { IsPlanOf (workspace_text workspace.now) (words_text holds_on words.now) (plan_text plan.now) }
+    ensures { IfOk result (λ texts. AreShown (spec.IsSpotShown asked.entry.format asked.entry.all (workspace_text workspace.now) (words_text holds_on words.now) (plan_text plan.now)) (spots_in (state_in parts.now) Built (map spot_text spots.now)) (texts_of texts.items)) }
+{
+    let built = those_in(alloc, parts, PartState::Built, spots)?;
+    spot_texts(
+        alloc,
+        asked.format,
+        asked.all,
+        workspace,
+        words,
+        plan,
+        &built,
+    )
+}
+
+/// Appends `lines` to `texts`, unless it is empty.
+fn push_unless_empty(texts: &mut Vec<Vec<u8>>, lines: Vec<u8>) -> Result<(), AllocError>
+    ensures { OnOk result (texts_of texts.new.items ≡ texts_of texts.old.items ++ spec.unless_empty lines.entry.items) }
+{
+    if lines.is_empty() {
+        return Ok(());
+    }
+    texts.push(lines)
+}
+
+/// Returns the answer of `texts` to `asked`, whose word names the parts `named`. It is negative if `is_negative` is true.
+fn answer_of(
+    alloc: Global,
+    asked: WhyQuestion<'_>,
+    workspace: &Workspace<'_>,
+    named: &[Named<'_>],
+    texts: &[Vec<u8>],
+    is_negative: bool,
+) -> Result<Answer, AllocError>
+    ensures { IfOk result (λ answer. answer_text answer ≡ record { content = (spec.gathered_why asked.entry.format (workspace_text workspace.now).packages asked.entry.word.now (map named_text named.now) (texts_of texts.now)).content; is_negative = is_negative }) }
+{
+    let end = " is off in this build: ask why-not\n";
+    let answer = gathered(
+        alloc,
+        asked.format,
+        workspace,
+        asked.word,
+        named,
+        end,
+        texts,
+    )?;
+    Ok(Answer {
+        text: answer.text,
+        is_negative,
+    })
+}
+
+/// Returns the answer to `asked`, whose word names the parts `named`: why each that is built is on in `plan`, side by side, and then a
+/// line for each that is on and not built.
+pub(crate) fn why_answer_of(
+    alloc: Global,
+    asked: WhyQuestion<'_>,
+    workspace: &Workspace<'_>,
+    words: &PlanWords<'_, '_, HeldSpecs<'_>>,
+    plan: &Plan<'_>,
+    named: &[Named<'_>],
+) -> Result<Answer, AllocError>
+    requires plan { IsPlanOf (workspace_text workspace.now) (words_text holds_on words.now) (plan_text plan.now) }
+    ensures { IfOk result (λ answer. spec.IsWhyAnswerOf asked.entry.format asked.entry.all (workspace_text workspace.now) (words_text holds_on words.now) (plan_text plan.now) asked.entry.word.now (map named_text named.now) (answer_text answer)) }
+{
+    let parts = BuiltParts::of_plan(alloc, words.selection.split, plan)?;
+    let spots = spots_of(alloc, named)?;
+    let mut texts = built_texts(alloc, asked, workspace, words, plan, &parts, &spots)?;
+    let is_negative = texts.is_empty();
+    let lines = unbuilt_text_of(alloc, asked.format, workspace, words, &parts, &spots)?;
+    push_unless_empty(&mut texts, lines)?;
+    answer_of(alloc, asked, workspace, named, &texts, is_negative)
 }

@@ -84,6 +84,12 @@ fn selection_refused<'p>(alloc: Global, workspace: &'p Workspace<'_>, fault: Wor
         WordFault::AmbiguousPackage { word, candidates } => {
             several_refused(alloc, workspace, word, &candidates)
         }
+        WordFault::NoPackages => refused(
+            alloc,
+            &[
+                "no package is selected: the workspace has no default members, or no members at all; select packages by -p or --workspace",
+            ],
+        ),
         WordFault::NoMember => refused(
             alloc,
             &[

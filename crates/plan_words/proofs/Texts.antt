@@ -8,7 +8,7 @@ use Rattle.std.proofs.lemmas.List.{take-append-drop}
 use Rattle.std.proofs.Math.Seq.{take-append_seam}
 use Rattle.cargo_workspaces.specs.Workspaces.{Text}
 use Rattle.plan_words.specs.FeatureWords.{without_mark}
-use Rattle.plan_words.specs.PackageWords.{begins_numbers}
+use Rattle.plan_words.specs.PackageWords.{begins_numbers, fits_rest, fits_version}
 
 never : false ≡ true → ⊥
 never e = cc
@@ -84,3 +84,21 @@ unmarked name h = rw (plain) refl
   where
     plain : ends_with nat_eq name (codes "?") ≡ false
     plain = false_of _ (λ e. h (take (length name - 1) name) (sym (ap (λ l. take (length name - 1) name ++ l) ((bytes_decides (63 ∷ []) (drop (length name - 1) name)).0 e) ∙ take-append-drop (length name - 1) name)))
+
+-- what follows a name without a mark
+pub unmarked_rest : (rest version : Text) → ((more : List ℕ) → rest ≢ 64 ∷ more) → ((more : List ℕ) → rest ≢ 58 ∷ more) → eqb (length rest) 0 ≡ fits_rest rest version
+unmarked_rest [] version h k = refl
+unmarked_rest (c ∷ rest) version h k = false_of _ (λ e. absurd (omega (arith, eqb-true (suc (length rest)) 0 e))) ∙ sym (ap (λ b. b && fits_version rest version) (plain (eqb c 64) refl (eqb c 58) refl))
+  where
+    plain : (a : Bool) → eqb c 64 ≡ a → (b : Bool) → eqb c 58 ≡ b → (eqb c 64 || eqb c 58) ≡ false
+    plain true e b i = absurd (h rest (ap (λ x. x ∷ rest) (eqb-true c 64 e)))
+    plain false e true i = absurd (k rest (ap (λ x. x ∷ rest) (eqb-true c 58 i)))
+    plain false e false i = rw (e, i) refl
+
+-- a text that begins with a name, and one that doesn't
+pub named_rest : (word name version rest : Text) (n : ℕ) → n ≡ length name → word ≡ name ++ drop n word → rest ≡ drop n word
+    → fits_rest rest version ≡ (starts_with nat_eq word name && fits_rest (drop (length name) word) version)
+named_rest word name version rest n long is at =
+    let front : take (length name) word ≡ name = ap (take (length name)) is ∙ take-append_seam name (drop n word) in
+    let begins : starts_with nat_eq word name ≡ true = (bytes_decides name (take (length name) word)).1 (sym front) in
+    rw (begins) (ap (λ t. fits_rest t version) (at ∙ ap (λ k. drop k word) long))

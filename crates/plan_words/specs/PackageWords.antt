@@ -1,13 +1,14 @@
 -- The packages that words name, as Cargo's package id specs do.
-use Rattle.std.specs.Prelude.{ℕ, ◌+◌, List, [], ◌∷◌, Bool, length, drop, Result, Ok, Err, nat_eq, not, ◌==◌, ◌&&◌, ◌||◌, if◌then◌else◌, codes}
-use Rattle.std.specs.List.{list_any, before_first, after_first, starts_with}
+use Rattle.std.specs.Prelude.{ℕ, ◌+◌, List, [], ◌∷◌, Bool, true, length, drop, Result, Ok, Err, nat_eq, not, ◌==◌, ◌&&◌, ◌||◌, if◌then◌else◌, codes}
+use Rattle.std.specs.List.{list_any, before_first, starts_with}
 use Rattle.std.specs.Str.{bytes_eq}
 use Rattle.cargo_workspaces.specs.Workspaces.{Text, PackageText, WorkspaceText}
 use Rattle.plan_words.specs.Selections.{ChoiceText, default_members, all_members, named}
-use Rattle.plan_words.specs.Refusals.{Refusal, unknown_package, ambiguous_package, ◌>>=◌}
+use Rattle.plan_words.specs.Refusals.{Refusal, ambiguous_package, no_packages, unknown_package, ◌>>=◌}
 
-abbrev pub is_at_sign : ℕ → Bool
-is_at_sign c = c == 64
+-- A version follows `@` or `:`.
+abbrev pub is_mark : ℕ → Bool
+is_mark c = c == 64 || c == 58
 
 abbrev pub is_plus : ℕ → Bool
 is_plus c = c == 43
@@ -32,11 +33,14 @@ fits_version word version =
     || bytes_eq word (without_build version)
     || not (has_dash (without_build version)) && begins_numbers word (without_build version)
 
--- Whether `word` is the package's name, or its name, `@` and a version that fits.
+-- Whether what follows a package's name is nothing, or `@` or `:` and a version that fits.
+abbrev pub fits_rest : Text → Text → Bool
+fits_rest [] version = true
+fits_rest (c ∷ word) version = is_mark c && fits_version word version
+
+-- Whether `word` is the package's name, or its name, `@` or `:`, and a version that fits.
 abbrev pub is_named : Text → PackageText → Bool
-is_named word p =
-    if list_any is_at_sign word then bytes_eq (before_first is_at_sign word) p.name && fits_version (after_first is_at_sign word) p.version
-    else bytes_eq word p.name
+is_named word p = starts_with nat_eq word p.name && fits_rest (drop (length p.name) word) p.version
 
 abbrev pub has_id : Text → PackageText → Bool
 has_id word p = bytes_eq word p.id
@@ -67,8 +71,13 @@ packages_of_words packages [] = Ok []
 packages_of_words packages (word ∷ words) =
     the_one word (packages_of_word packages word) >>= λ p. packages_of_words packages words >>= λ ps. Ok (p ∷ ps)
 
+-- A selection must have a package.
+abbrev pub some_of : List ℕ → Result (List ℕ) Refusal
+some_of [] = Err no_packages
+some_of (p ∷ ps) = Ok (p ∷ ps)
+
 -- The selected packages, in the order of the workspace or of the words.
 abbrev pub selected : WorkspaceText → ChoiceText → Result (List ℕ) Refusal
-selected w default_members = Ok w.default_members
-selected w all_members = Ok w.members
+selected w default_members = some_of w.default_members
+selected w all_members = some_of w.members
 selected w (named words) = packages_of_words w.packages words

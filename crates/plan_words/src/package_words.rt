@@ -48,13 +48,26 @@ fn fits_version(word: &str, version: &str) -> bool
     word == version || word == front || !has_dash(front) && begins_numbers(word, front)
 }
 
-/// Returns whether `word` is the name of `package`, or its name, `@` and a version that fits.
+/// Returns whether `rest`, which follows a package's name, is nothing, or `@` or `:` and a version that fits.
+fn fits_rest(rest: &str, version: &str) -> bool
+    ensures { result ≡ spec.fits_rest rest.now version.now }
+{
+    match rest.strip_prefix('@') {
+        Some(word) => fits_version(word, version),
+        None => match rest.strip_prefix(':') {
+            Some(word) => fits_version(word, version),
+            None => rest.is_empty(),
+        },
+    }
+}
+
+/// Returns whether `word` is the name of `package`, or its name, `@` or `:`, and a version that fits.
 fn is_named(word: &str, package: &Package<'_>) -> bool
     ensures { result ≡ spec.is_named word.now (package_text «package».now) }
 {
-    match word.split_once('@') {
-        Some((name, version)) => name == package.name && fits_version(version, package.version),
-        None => word == package.name,
+    match word.strip_prefix(package.name) {
+        Some(rest) => fits_rest(rest, package.version),
+        None => false,
     }
 }
 
@@ -92,8 +105,8 @@ fn packages_named(
     Ok(numbers)
 }
 
-/// Returns the numbers of the packages that `word` names, ascending: the package with this id alone, else those with this `NAME` or
-/// `NAME@VERSION`. The version may be a beginning of the package's numbers, as in `clap@4`.
+/// Returns the numbers of the packages that `word` names, ascending: the package with this id alone, else those with this `NAME`,
+/// `NAME@VERSION` or `NAME:VERSION`. The version may be a beginning of the package's numbers, as in `clap@4`.
 pub fn packages_of_word(
     alloc: Global,
     workspace: &Workspace<'_>,
@@ -155,7 +168,18 @@ fn packages_of_words<'s>(
     Ok(packages)
 }
 
-/// Returns the numbers of the packages that `choice` selects, in the order of the workspace or of the words.
+/// Returns `numbers`, those of the selected packages; NoPackages if there are none.
+fn some_of<'s>(alloc: Global, numbers: &[usize]) -> Result<Vec<usize>, WordFault<'s>>
+    ensures { Gives (λ packages. packages.items) result (spec.some_of numbers.now) }
+{
+    if numbers.is_empty() {
+        return Err(WordFault::NoPackages);
+    }
+    Ok(Vec::from_slice(alloc, numbers)?)
+}
+
+/// Returns the numbers of the packages that `choice` selects, in the order of the workspace or of the words; NoPackages if that
+/// is none.
 pub(crate) fn selected<'s>(
     alloc: Global,
     workspace: &Workspace<'_>,
@@ -167,8 +191,8 @@ pub(crate) fn selected<'s>(
     // (calls named facts() carry the invariant into the proof)
     workspace.facts();
     match choice {
-        PackageChoice::Default => Ok(Vec::from_slice(alloc, workspace.default_members())?),
-        PackageChoice::Workspace => Ok(Vec::from_slice(alloc, workspace.members())?),
+        PackageChoice::Default => some_of(alloc, workspace.default_members()),
+        PackageChoice::Workspace => some_of(alloc, workspace.members()),
         PackageChoice::Named(words) => packages_of_words(alloc, workspace, words),
     }
 }

@@ -7,5 +7,6 @@ pub mod ReasonedLines
 pub mod ReasonedObjects
 pub mod Relations
 pub mod Settings
+pub mod Unbuilt
 pub mod Views
 pub mod inner

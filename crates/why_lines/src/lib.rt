@@ -11,6 +11,7 @@ mod relations;
 mod rows;
 mod settings;
 mod table;
+mod unbuilt;
 
 pub use labels::{spot_label, spot_labels};
 pub use objects::{why_objects, write_steps};
@@ -19,3 +20,4 @@ pub use reason_objects::reasoned_objects;
 pub use reason_rows::reasoned_lines;
 pub use settings::WhySettings;
 pub use table::{each_why_lines, why_lines};
+pub use unbuilt::{UnbuiltSpot, unbuilt_lines};
