@@ -22,8 +22,8 @@ returns c =
     let messages = c.in_ok-messages.messages.items in
     let are = messages_are w words plan (state_in builds.parts) (script_in builds.scripts) facts.parts facts.scripts builds.split parts (optional_texts messages) facts.split c.in_ok-messages.ensures in
     let by = c.in_ok-answers.ensures
-        ∙ ap (λ ms. answers_by (optional_texts ms) (map found_text c.deref-3.result.now)) c.deref-2.ensures.value
-        ∙ ap (λ fs. answers_by (optional_texts messages) (map found_text fs)) c.deref-3.ensures.value in
+    ∙ ap (λ ms. answers_by (optional_texts ms) (map found_text c.deref-3.result.now)) c.deref-2.ensures.value
+    ∙ ap (λ fs. answers_by (optional_texts messages) (map found_text fs)) c.deref-3.ensures.value in
     IfOk-weaker c.answer_sections.result _ _ (λ sections shown.
     explained_by c.args.form w words c.args.widening plan (state_in builds.parts) parts (optional_texts messages)
     c.in_ok-spots.spots.items c.deref.result.now c.in_ok-founds.founds.items (map answer_text c.in_ok-answers.answers.items) (texts_of sections.items)
