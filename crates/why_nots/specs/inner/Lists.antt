@@ -1,7 +1,8 @@
 -- The texts about several parts.
 use Rattle.std.specs.Prelude.{ℕ, Bool, List, ◌++◌, Option, Some, None, map, option_map, string_bytes}
 use Rattle.std.specs.List.{zip}
-use Rattle.std.specs.Global.{String, Vec}
+use Rattle.std.specs.Global.{Vec}
+use Rattle.std.proofs.Common.{Global, String}
 use Rattle.built_parts.specs.declared.state.PartState.{PartState}
 use Rattle.cargo_workspaces.specs.Workspaces.{Text, PackageText}
 use Rattle.cargo_plans.specs.Plans.{WordsText}
@@ -26,7 +27,7 @@ use Rattle.why_nots.specs.declared.answer.Answer.TheVariants as answer
 abbrev pub texts_of : List (Vec ℕ) → List Text
 texts_of texts = map (λ t. t.items) texts
 
-abbrev pub optional_texts : List (Option String) → List (Option Text)
+abbrev pub optional_texts : List (Option (String Global)) → List (Option Text)
 optional_texts texts = map (option_map string_bytes) texts
 
 -- The value that an answer contains.
