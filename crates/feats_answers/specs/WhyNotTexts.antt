@@ -1,6 +1,8 @@
--- The text about which wider selections turn on a feature that is off.
-use Rattle.std.specs.Prelude.{◌≡◌, List, Bool, not, ◌||◌, filter, map, codes}
+-- The text about which wider selections turn on a feature that isn't built.
+use Rattle.std.specs.Prelude.{◌≡◌, ℕ, List, Bool, not, ◌||◌, filter, map, codes}
 use Rattle.std.specs.List.{AllZip}
+use Rattle.built_parts.specs.Built.{is_part_built}
+use Rattle.feature_labels.specs.Names.{LabelName}
 use Rattle.cargo_workspaces.specs.Workspaces.{Text, WorkspaceText}
 use Rattle.cargo_plans.specs.Plans.{WordsText}
 use Rattle.plan_names.specs.Names.{NamedText}
@@ -8,7 +10,6 @@ use Rattle.plan_platforms.specs.DeclaredSpecs.{DeclaredText}
 use Rattle.plan_platforms.specs.HeldSpecs.{is_declared}
 use Rattle.plan_rows.specs.declared.side.Side.{Side}
 use Rattle.plan_rows.specs.declared.side.Side.TheVariants.{Target, Host}
-use Rattle.cargo_plans.specs.plan_starts.PackageVisits.{is_on}
 use Rattle.cargo_plans.specs.plan_steps.Plans.{PlanText}
 use Rattle.why_nots.specs.Parts.{PartText}
 use Rattle.why_nots.specs.Texts.{IsWhyNotText}
@@ -17,31 +18,31 @@ use Rattle.feats_answers.specs.AnswerTexts.{AnswerText}
 use Rattle.feats_answers.specs.Gathered.{gathered}
 use Rattle.feats_answers.specs.Parts.{ArePartsOf, label_of_part}
 
-abbrev pub is_on_side : PlanText → NamedText → Side → Bool
-is_on_side plan part side = is_on plan.on side part.owner (label_of_part part.part)
-
--- Whether a part is off in the plan, on both sides.
-abbrev pub is_part_off : PlanText → NamedText → Bool
-is_part_off plan part = not (is_on_side plan part Target || is_on_side plan part Host)
+-- Whether a part is built on no side. `built side p label` is whether a part of package `p` is built.
+abbrev pub is_part_off : (Side → ℕ → LabelName → Bool) → NamedText → Bool
+is_part_off built part = not (built Target part.owner (label_of_part part.part) || built Host part.owner (label_of_part part.part))
 
 -- The part as a label of its package.
 abbrev pub off_part : NamedText → PartText
 off_part part = record { number = part.owner; label = label_of_part part.part }
 
--- Those of the parts that are off in the plan.
-abbrev pub off_parts : PlanText → List NamedText → List PartText
-off_parts plan parts = map off_part (filter (is_part_off plan) parts)
+abbrev pub parts_off : (Side → ℕ → LabelName → Bool) → List NamedText → List PartText
+parts_off built parts = map off_part (filter (is_part_off built) parts)
+
+-- Those of the parts that aren't built in the plan.
+abbrev pub off_parts : Bool → PlanText → List NamedText → List PartText
+off_parts split plan parts = parts_off (is_part_built split plan) parts
 
 abbrev pub on_end : Text
 on_end = codes " is on in this build: ask why\n"
 
--- The answer to `why-not` with this word: which wider selections turn on each part that it names and that is off. If all are on, it says
--- no. Exactly the specs hold on every platform.
+-- The answer to `why-not` with this word: which wider selections turn on each part that it names and that isn't built. If all are built, it
+-- says no. Exactly the specs hold on every platform.
 pub record IsWhyNotAnswer (form : Format) (w : WorkspaceText) (specs : List DeclaredText) (words : WordsText) (plan : PlanText) (word : Text) (answer : AnswerText) : Type 0 where
   pub every : Text → Bool
   pub is_every : (text : Text) → every text ≡ is_declared specs text
   pub parts : List NamedText
   pub are_parts : ArePartsOf w words word parts
   pub shown : List Text
-  pub are_shown : AllZip (IsWhyNotText form w words every) (off_parts plan parts) shown
+  pub are_shown : AllZip (IsWhyNotText form w words every) (off_parts words.selection.split plan parts) shown
   pub is_answer : answer ≡ gathered form w.packages word parts on_end shown

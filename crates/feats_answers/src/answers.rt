@@ -141,7 +141,7 @@ fn why_not_answer<'w, 's>(
 {
     let named = parts_of(alloc, workspace, words, word)?;
     let every = every_spec(alloc, specs)?;
-    let off = off_parts(alloc, plan, &named)?;
+    let off = off_parts(alloc, words.selection.split, plan, &named)?;
     let texts = why_not_texts(alloc, format, workspace, words, plan, &every, &off)?;
     let end = " is on in this build: ask why\n";
     Ok(gathered(alloc, format, workspace, word, &named, end, &texts)?)

@@ -1,25 +1,25 @@
-//! The parts that are off in a plan.
+//! The parts that aren't built in a plan.
 ghost use Rattle.std.specs.Prelude.{◌≡◌, IfOk, map};
+ghost use Rattle.built_parts.specs.BuiltViews.{is_built_in};
 ghost use Rattle.plan_names.specs.Views.{named_text};
 ghost use Rattle.cargo_plans.specs.plan_steps.PlanViews.{plan_text};
 ghost use Rattle.why_nots.specs.PartView.{part_text};
 ghost use Rattle.feats_answers.specs.WhyNotTexts as spec;
 
-use crate::labels_on::labels_of;
 use crate::parts::label_of;
+use built_parts::BuiltParts;
 use cargo_plans::{Plan, Side};
-use feature_lists::LabelsOn;
 use plan_names::Named;
 use std::alloc::{AllocError, Global};
 use why_nots::OffPart;
 
-/// Returns whether `named` is off in `plan`, on both sides.
-fn is_part_off(plan: &Plan<'_>, named: Named<'_>) -> bool
-    ensures { result ≡ spec.is_part_off (plan_text plan.now) (named_text named.entry) }
+/// Returns whether `named` is built on no side, in the plan whose built parts are `built`.
+fn is_part_off(built: &BuiltParts<'_>, named: Named<'_>) -> bool
+    ensures { result ≡ spec.is_part_off (is_built_in built.now) (named_text named.entry) }
 {
-    let on = labels_of(plan);
     let label = label_of(named.part);
-    !(on.is_on(Side::Target, named.package, label) || on.is_on(Side::Host, named.package, label))
+    !(built.is_built(Side::Target, named.package, label)
+        || built.is_built(Side::Host, named.package, label))
 }
 
 /// Returns `named` as a label of its package.
@@ -32,19 +32,32 @@ fn off_part(named: Named<'_>) -> OffPart<'_>
     }
 }
 
-/// Returns those of `named` that are off in `plan`.
-pub(crate) fn off_parts<'w>(
+/// Returns those of `named` that aren't built, in the plan whose built parts are `built`.
+fn unbuilt_parts<'w>(
     alloc: Global,
-    plan: &Plan<'_>,
+    built: &BuiltParts<'_>,
     named: &[Named<'w>],
 ) -> Result<Vec<OffPart<'w>>, AllocError>
-    ensures { IfOk result (λ parts. map part_text parts.items ≡ spec.off_parts (plan_text plan.now) (map named_text named.now)) }
+    ensures { IfOk result (λ parts. map part_text parts.items ≡ spec.parts_off (is_built_in built.now) (map named_text named.now)) }
 {
     let mut parts = Vec::new(alloc);
     for one in named {
-        if is_part_off(plan, *one) {
+        if is_part_off(built, *one) {
             parts.push(off_part(*one))?;
         }
     }
     Ok(parts)
+}
+
+/// Returns those of `named` that aren't built in `plan`. `split` is whether its resolver tells the sides apart.
+pub(crate) fn off_parts<'w>(
+    alloc: Global,
+    split: bool,
+    plan: &Plan<'_>,
+    named: &[Named<'w>],
+) -> Result<Vec<OffPart<'w>>, AllocError>
+    ensures { IfOk result (λ parts. map part_text parts.items ≡ spec.off_parts split (plan_text plan.now) (map named_text named.now)) }
+{
+    let built = BuiltParts::of_plan(alloc, split, plan)?;
+    unbuilt_parts(alloc, &built, named)
 }

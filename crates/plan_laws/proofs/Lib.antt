@@ -20,5 +20,6 @@ mod Numbered
 mod OneOutcome
 mod OnePlan
 mod Resolvers
+mod Sentence
 mod Wider
 mod WidestWords

@@ -1,7 +1,9 @@
-//! The law that `why-not` states. The function does nothing: its contract is the law.
+//! The laws of what `why-not` states. Each function does nothing: its contract is the law.
 ghost use Rattle.plan_laws.specs.NoChoice.{NoChoiceTurnsOn};
+ghost use Rattle.plan_laws.specs.Sentence.{SentenceIsTrue};
 
 use crate::laws::no_selection_turns_on;
+use widening_lines::sentence_says_off;
 
 /// States that no choice of members, features of members, tests and platforms turns on what is off with all widenings of a command line
 /// together.
@@ -9,4 +11,13 @@ pub fn no_choice_turns_on()
     ensures { NoChoiceTurnsOn }
 {
     no_selection_turns_on();
+}
+
+/// States that the sentence is true: if a text of `why-not` ends with it, no choice of members, features of members, tests and platforms
+/// turns the part on.
+pub fn the_sentence_is_true()
+    ensures { SentenceIsTrue }
+{
+    no_choice_turns_on();
+    sentence_says_off();
 }

@@ -1,8 +1,7 @@
 -- Whether a label is on by some words.
-use Rattle.std.specs.Prelude.{◌≡◌, ℕ, Bool, true, false, IsFalse, IsTrue, ◌||◌, if◌then◌else◌}
+use Rattle.std.specs.Prelude.{ℕ, Bool, true, false, IsFalse, ◌||◌}
 use Rattle.feature_labels.specs.Names.{LabelName}
 use Rattle.cargo_workspaces.specs.Workspaces.{Text, WorkspaceText}
-use Rattle.plan_rows.specs.declared.side.Side.{Side}
 use Rattle.plan_rows.specs.declared.side.Side.TheVariants.{Host, Target}
 use Rattle.cargo_plans.specs.plan_starts.PackageVisits.{PairVisit, is_on}
 use Rattle.cargo_plans.specs.plan_steps.Plans.{PlanText}
@@ -21,21 +20,11 @@ sides_of on p label = record { target = is_on on Target p label; host = is_on on
 abbrev pub are_some : Sides → Bool
 are_some sides = sides.target || sides.host
 
--- The target side if the label is on there, else the host side.
-abbrev pub first_side : Sides → Side
-first_side sides = if sides.target then Target else Host
-
 -- The words have a plan, in which the label of package `p` is off on both sides.
 pub record IsOff (w : WorkspaceText) (words : WordsText) (p : ℕ) (label : LabelName) : Type 0 where
   pub plan : PlanText
   pub is_plan : IsPlanOf w words plan
   pub is_off : IsFalse (are_some (sides_of plan.on p label))
-
--- This is a plan of the words, in which the label of package `p` is on, on these sides.
-pub record IsOnBy (w : WorkspaceText) (words : WordsText) (p : ℕ) (label : LabelName) (sides : Sides) (plan : PlanText) : Type 0 where
-  pub is_plan : IsPlanOf w words plan
-  pub are_sides : sides ≡ sides_of plan.on p label
-  pub is_on : IsTrue (are_some sides)
 
 -- Whether the fault is that of the words, and not one of an allocation.
 abbrev pub is_memory : PlanFault → Bool

@@ -16,19 +16,6 @@ pub struct Sides {
     pub host: bool,
 }
 
-impl Sides {
-    /// Returns the target side if the feature is on there, else the host side.
-    pub fn first(self) -> Side
-        ensures { result ≡ spec.first_side self }
-    {
-        if self.target {
-            Side::Target
-        } else {
-            Side::Host
-        }
-    }
-}
-
 /// Returns whether `label` of package `package` is on, on `side`, by the visit of step `on`.
 fn is_on(on: &PackageVisit, side: Side, package: usize, label: FeatureLabel<'_>) -> bool
     ensures { result ≡ is_on on.now side «package» (label_of label.entry) }

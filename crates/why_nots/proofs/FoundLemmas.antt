@@ -1,78 +1,94 @@
 -- What is said of one widening, from the steps that were found in its plan, or from the reason why there is no plan.
-use Rattle.std.proofs.Common.{◌≡◌, ◌∙◌, ap, sym, subst, refl, Bool, true, false, ◌||◌, List, [], ◌∷◌, map, Option, None, Some}
-use Rattle.std.specs.Prelude.{IsFalse, IsTrue, if◌then◌else◌}
+use Rattle.std.proofs.Common.{◌≡◌, ◌∙◌, ap, sym, subst, refl, ℕ, Bool, true, false, ◌||◌, List, [], ◌∷◌, map, Option, None, Some}
+use Rattle.std.specs.Prelude.{IsFalse}
 use Rattle.std.specs.Global.{Vec}
 use Rattle.std.specs.List.{AllZip, list_any}
 use Rattle.std.proofs.lemmas.Bool.{or_parts}
+use Rattle.built_parts.specs.Built.{state_of}
+use Rattle.built_parts.specs.declared.state.PartState.{PartState}
 use Rattle.cargo_plans.specs.Plans.{IsPlanOf, WordsText, settings_by}
 use Rattle.cargo_plans.specs.Refusals.{IsRefusal}
 use Rattle.cargo_plans.specs.declared.fault.PlanFault.{PlanFault}
+use Rattle.cargo_plans.specs.plan_starts.PackageVisits.{is_on}
+use Rattle.cargo_plans.specs.plan_steps.Plans.{PlanText}
 use Rattle.cargo_workspaces.specs.Workspaces.{Text, WorkspaceText}
 use Rattle.feats_words.specs.declared.command_arguments.Format.{Format}
+use Rattle.feature_labels.specs.Names.{LabelName}
 use Rattle.plan_messages.specs.Messages.{plan_message}
 use Rattle.plan_rows.specs.declared.side.Side.{Side}
 use Rattle.plan_rows.specs.declared.side.Side.TheVariants.{Host, Target}
-use Rattle.cargo_plans.specs.plan_starts.PackageVisits.{is_on}
-use Rattle.cargo_plans.specs.plan_steps.Plans.{PlanText}
 use Rattle.plan_whys.specs.StepViews.{found_text, spot_text}
 use Rattle.plan_whys.specs.Steps.{SpotText, WhyText}
 use Rattle.plan_whys.specs.Whys.{Answers, AnswersBy, AnswersEachBy}
 use Rattle.plan_whys.specs.declared.steps.Spot.{Spot}
 use Rattle.plan_whys.specs.declared.steps.WhyStep.{WhyStep}
-use Rattle.plan_widenings.specs.Findings.{is_memory, sides_of}
+use Rattle.plan_widenings.specs.Findings.{is_memory}
 use Rattle.plan_widenings.specs.declared.widening.Widening.{Widening}
-use Rattle.why_nots.specs.Answers.{IsAnswer, not_planned, off}
+use Rattle.why_nots.specs.Answers.{AnswerText, IsAnswer, lacking_in, message_in, message_on, not_planned, off}
 use Rattle.why_nots.specs.PartView.{part_text}
-use Rattle.why_nots.specs.Parts.{PartText}
+use Rattle.why_nots.specs.Parts.{PartText, spot_on}
+use Rattle.why_nots.specs.Standings as standing
+use Rattle.why_nots.specs.Standings.{StandingText, standing_in, standing_of}
 use Rattle.why_nots.specs.Texts.{IsSection}
+use Rattle.why_nots.specs.Unbuilt.{message_if, unbuilt_message}
 use Rattle.why_nots.specs.declared.parts.OffPart.{OffPart}
-use Rattle.why_nots.specs.inner.Lists.{answer_of, first_spot, found_sections, has_part, same_sections}
+use Rattle.why_nots.specs.inner.Lists.{answer_by, answer_sections, answers_by, first_spot, has_part, message_about, same_sections, side_where}
+use Rattle.why_nots.proofs.Standings.{built_is_on, off_is_off}
 
--- what is off on its first side is off on both
-off_on_first : (t h : Bool) (on : Side → Bool) → t ≡ on Target → h ≡ on Host → on (if t then Target else Host) ≡ false → IsFalse (t || h)
-off_on_first true h on at_target at_host not_on = at_target ∙ not_on
-off_on_first false h on at_target at_host not_on = at_host ∙ not_on
+true_or : (a b : Bool) → (a || b) ≡ false → (a ≡ false) × (b ≡ false)
+true_or true b h = absurd (cc)
+true_or false b h = (refl, h)
 
--- what is on on its first side is on
-on_on_first : (t h : Bool) (on : Side → Bool) → t ≡ on Target → h ≡ on Host → on (if t then Target else Host) ≡ true → IsTrue (t || h)
-on_on_first true h on at_target at_host is = refl
-on_on_first false h on at_target at_host is = at_host ∙ is
+-- an answer by the message, and by what was found at the first spot
+pub answered : (w : WorkspaceText) (words : WordsText) (plan : PlanText) (part : PartText) (found : Option (List WhyText)) → IsPlanOf w words plan
+    → AnswersBy w words plan.on (first_spot (state_of words.selection.split plan) part) found → IsAnswer w words part (answer_by (message_in w words plan part, found))
+answered w words plan part found is_plan answer = go (standing_of words.selection.split plan part) refl found answer
+  where
+    message : Side → Text
+    message = message_on w words plan part
 
--- an answer by what was found at the first spot
-pub answered : (w : WorkspaceText) (words : WordsText) (plan : PlanText) (part : PartText) (found : Option (List WhyText)) → IsPlanOf w words plan → AnswersBy w words plan.on (first_spot plan.on part) found
-    → IsAnswer w words part (answer_of found)
-answered w words plan part None is_plan answer = record {
-  plan = plan;
-  is_plan = is_plan;
-  is_off = let sides = sides_of plan.on part.number part.label in
-      off_on_first sides.target sides.host (λ side. is_on plan.on side part.number part.label) refl refl answer.holds;
-}
-answered w words plan part (Some whys) is_plan answer = record {
-  sides = sides_of plan.on part.number part.label;
-  plan = plan;
-  is_on = record {
-    is_plan = is_plan;
-    are_sides = refl;
-    is_on = let sides = sides_of plan.on part.number part.label in
-        on_on_first sides.target sides.host (λ side. is_on plan.on side part.number part.label) refl refl answer.holds.is_on;
-  };
-  is_why = answer;
-}
+    go : (st : StandingText) → standing_of words.selection.split plan part ≡ st → (f : Option (List WhyText)) → AnswersBy w words plan.on (spot_on (side_where st) part) f → IsAnswer w words part (answer_by (message_if message st, f))
+    go (standing.built_on side) is None a =
+        let clash : true ≡ false = sym (built_is_on words.selection.split plan part side is) ∙ a.holds in
+        absurd (cc)
+    go (standing.built_on side) is (Some whys) a = record { side = side; plan = plan; is_plan = is_plan; is_built = is; is_why = a }
+    go (standing.unbuilt_on side) is f a = record { side = side; plan = plan; is_plan = is_plan; is_unbuilt = is; is_message = refl }
+    go standing.off is None a = record { plan = plan; is_plan = is_plan; is_off = off_is_off words.selection.split plan part is }
+    go standing.off is (Some whys) a =
+        let none = true_or (is_on plan.on Target part.number part.label) (is_on plan.on Host part.number part.label) (off_is_off words.selection.split plan part is) in
+        let clash : true ≡ false = sym a.holds.is_on ∙ none.0 in
+        absurd (cc)
+
+-- the messages about what isn't built in the plan
+module _ (w : WorkspaceText) (words : WordsText) (plan : PlanText) (states : Side → ℕ → LabelName → PartState) (lacking : ℕ → Option ℕ) (same : states ≡ state_of words.selection.split plan)
+    (lacks : (q : ℕ) → lacking q ≡ lacking_in w words plan q) where
+  message_is : (p : PartText) → message_about w.packages words.selection.split lacking states p ≡ message_in w words plan p
+  message_is p =
+      ap (λ (q : Option ℕ). message_if (unbuilt_message w.packages words.selection.split q p.number) (standing_in states p)) (lacks p.number)
+      ∙ ap (λ (s : Side → ℕ → LabelName → PartState). message_if (message_on w words plan p) (standing_in s p)) same
+
+  messages_in : (parts : List PartText) → map (message_about w.packages words.selection.split lacking states) parts ≡ map (message_in w words plan) parts
+  messages_in [] = refl
+  messages_in (p ∷ ps) = ap (λ m. m ∷ map (message_about w.packages words.selection.split lacking states) ps) (message_is p) ∙ ap (λ ms. message_in w words plan p ∷ ms) (messages_in ps)
+
+  pub messages_are : (sides : Bool) (parts : List PartText) (messages : List (Option Text)) → sides ≡ words.selection.split → messages ≡ map (message_about w.packages sides lacking states) parts → messages ≡ map (message_in w words plan) parts
+  messages_are sides parts messages split are = are ∙ ap (λ b. map (message_about w.packages b lacking states) parts) split ∙ messages_in parts
 
 module _ (form : Format) (w : WorkspaceText) (words : WordsText) (v : Widening) where
-  -- the sections by what was found at the first spots
-  each_found : (plan : PlanText) (parts : List PartText) (spots : List Spot) (founds : List (Option (Vec WhyStep))) → IsPlanOf w words plan → map spot_text spots ≡ map (first_spot plan.on) parts
-      → AllZip (λ at found. AnswersBy w words plan.on (spot_text at) (found_text found)) spots founds → AllZip (IsSection form w words v) parts (found_sections form w.packages words v parts (map found_text founds))
+  -- the sections by the messages, and by what was found at the first spots
+  each_found : (plan : PlanText) (parts : List PartText) (spots : List Spot) (founds : List (Option (Vec WhyStep))) → IsPlanOf w words plan → map spot_text spots ≡ map (first_spot (state_of words.selection.split plan)) parts
+      → AllZip (λ at found. AnswersBy w words plan.on (spot_text at) (found_text found)) spots founds
+      → AllZip (IsSection form w words v) parts (answer_sections form w.packages words v parts (answers_by (map (message_in w words plan) parts) (map found_text founds)))
   each_found plan [] [] [] is_plan same zip = tt
   each_found plan [] [] (f ∷ fs) is_plan same zip = absurd zip
   each_found plan [] (s ∷ ss) founds is_plan same zip = cc
   each_found plan (p ∷ ps) [] founds is_plan same zip = cc
   each_found plan (p ∷ ps) (s ∷ ss) [] is_plan same zip = absurd zip
   each_found plan (p ∷ ps) (s ∷ ss) (f ∷ fs) is_plan same zip =
-      let here : spot_text s ≡ first_spot plan.on p = cc in
-      let more : map spot_text ss ≡ map (first_spot plan.on) ps = cc in (
+      let here : spot_text s ≡ first_spot (state_of words.selection.split plan) p = cc in
+      let more : map spot_text ss ≡ map (first_spot (state_of words.selection.split plan)) ps = cc in (
         record {
-          answer = answer_of (found_text f);
+          answer = answer_by (message_in w words plan p, found_text f);
           is_answer = answered w words plan p (found_text f) is_plan (subst (λ (spot : SpotText). AnswersBy w words plan.on spot (found_text f)) here zip.0);
           is_text = refl;
         },
@@ -89,11 +105,14 @@ module _ (form : Format) (w : WorkspaceText) (words : WordsText) (v : Widening) 
       go (s ∷ ss) [] zip = absurd zip
       go (s ∷ ss) (f ∷ fs) zip = (record { chosen = answers.chosen; are_accepted = answers.are_accepted; holds = zip.0 }, go ss fs zip.1)
 
-  pub explained_by : (plan : PlanText) (parts : List PartText) (spots taken : List Spot) (founds given : List (Option (Vec WhyStep))) (sections : List Text) → IsPlanOf w words plan → map spot_text spots ≡ map (first_spot plan.on) parts
-      → taken ≡ spots → AnswersEachBy w words plan.on taken founds → given ≡ founds → sections ≡ found_sections form w.packages words v parts (map found_text given) → AllZip (IsSection form w words v) parts sections
-  explained_by plan parts spots taken founds given sections is_plan same are answers is shown =
-      subst (AllZip (IsSection form w words v) parts) (sym (shown ∙ ap (λ fs. found_sections form w.packages words v parts (map found_text fs)) is))
-      (each_found plan parts spots founds is_plan same (by_each plan spots founds (subst (λ ss. AnswersEachBy w words plan.on ss founds) are answers)))
+  pub explained_by : (plan : PlanText) (states : Side → ℕ → LabelName → PartState) (parts : List PartText) (messages : List (Option Text)) (spots taken : List Spot) (founds : List (Option (Vec WhyStep))) (answers : List AnswerText) (sections : List Text)
+      → IsPlanOf w words plan → states ≡ state_of words.selection.split plan → messages ≡ map (message_in w words plan) parts → map spot_text spots ≡ map (first_spot states) parts
+      → taken ≡ spots → AnswersEachBy w words plan.on taken founds → answers ≡ answers_by messages (map found_text founds) → sections ≡ answer_sections form w.packages words v parts answers
+      → AllZip (IsSection form w words v) parts sections
+  explained_by plan states parts messages spots taken founds answers sections is_plan states_are are same is_taken found by shown =
+      subst (AllZip (IsSection form w words v) parts) (sym (shown ∙ ap (λ z. answer_sections form w.packages words v parts z) (by ∙ ap (λ ms. answers_by ms (map found_text founds)) are)))
+      (each_found plan parts spots founds is_plan (same ∙ ap (λ (s : Side → ℕ → LabelName → PartState). map (first_spot s) parts) states_are)
+      (by_each plan spots founds (subst (λ ss. AnswersEachBy w words plan.on ss founds) is_taken found)))
 
   each_off : (plan : PlanText) (parts : List OffPart) → IsPlanOf w words plan → list_any (λ part. has_part plan.on (part_text part)) parts ≡ false
       → AllZip (IsSection form w words v) (map part_text parts) (same_sections form w.packages words v off (map part_text parts))

@@ -13,3 +13,8 @@ module _ {A B C : Type 0} (f : A × B → C) (xs : List A) (ys : List B) (done w
       no_pairs : (us : List A) → zip {X = B} us [] ≡ []
       no_pairs [] = refl
       no_pairs (u ∷ us) = refl
+
+-- both lists are made of one
+pub zip_maps : {A B C D : Type 0} (f : A × B → C) (g : D → A) (h : D → B) (k : D → C) → ((x : D) → f (g x, h x) ≡ k x) → (xs : List D) → map f (zip (map g xs) (map h xs)) ≡ map k xs
+zip_maps f g h k same [] = refl
+zip_maps f g h k same (x ∷ xs) = ap (λ z. z ∷ map f (zip (map g xs) (map h xs))) (same x) ∙ ap (λ zs. k x ∷ zs) (zip_maps f g h k same xs)

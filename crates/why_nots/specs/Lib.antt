@@ -3,5 +3,8 @@ pub mod Lines
 pub mod Objects
 pub mod Parts
 pub mod PartView
+pub mod Standings
+pub mod StandingView
 pub mod Texts
+pub mod Unbuilt
 pub mod inner

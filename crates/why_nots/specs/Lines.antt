@@ -6,7 +6,7 @@ use Rattle.widening_lines.specs.Lines.{SaidText}
 use Rattle.widening_lines.specs.Lines as said
 use Rattle.why_lines.specs.Lines.{why_lines}
 use Rattle.why_lines.specs.Settings.{SettingsText}
-use Rattle.why_nots.specs.Answers.{AnswerText, explained, off, not_planned}
+use Rattle.why_nots.specs.Answers.{AnswerText, explained, not_planned, off, unbuilt}
 
 -- The settings of the lines that explain a plan of the words.
 abbrev pub settings_of : WordsText → SettingsText
@@ -15,5 +15,6 @@ settings_of words = record { split = words.selection.split; test = words.test; h
 -- What is said by an answer.
 abbrev pub said_of : List PackageText → WordsText → AnswerText → SaidText
 said_of packages words (explained whys) = said.on_by (why_lines packages (settings_of words) whys)
+said_of packages words (unbuilt message) = said.unbuilt message
 said_of packages words off = said.off
 said_of packages words (not_planned message) = said.not_planned message

@@ -7,7 +7,7 @@ use Rattle.line_parts.specs.Members.{flag_member, optional_member, text_member}
 use Rattle.plan_widenings.specs.declared.widening.Widening.{Widening}
 use Rattle.plan_widenings.specs.declared.widening.Widening.TheVariants as widening
 use Rattle.why_lines.specs.Objects.{dependency_name, feature_name, id_at, step_objects}
-use Rattle.why_nots.specs.Answers.{AnswerText, explained, off, not_planned}
+use Rattle.why_nots.specs.Answers.{AnswerText, explained, not_planned, off, unbuilt}
 use Rattle.why_nots.specs.Lines.{settings_of}
 use Rattle.why_nots.specs.Parts.{PartText}
 
@@ -27,6 +27,9 @@ part_tokens packages part =
 abbrev pub array_tokens : List Token → List Token
 array_tokens items = begin_array ∷ (items ++ end_array ∷ [])
 
+abbrev pub unbuilt_tokens : Text → List Token
+unbuilt_tokens message = flag_member (codes "on") false ++ text_member (codes "message") message
+
 abbrev pub refused_tokens : Text → List Token
 refused_tokens message = key (codes "on") ∷ null ∷ text_member (codes "message") message
 
@@ -34,6 +37,7 @@ refused_tokens message = key (codes "on") ∷ null ∷ text_member (codes "messa
 abbrev pub answer_tokens : List PackageText → WordsText → AnswerText → List Token
 answer_tokens packages words (explained whys) =
     flag_member (codes "on") true ++ key (codes "steps") ∷ array_tokens (step_objects packages (settings_of words) whys)
+answer_tokens packages words (unbuilt message) = unbuilt_tokens message
 answer_tokens packages words off = flag_member (codes "on") false
 answer_tokens packages words (not_planned message) = refused_tokens message
 

@@ -1,26 +1,28 @@
 -- The text about a part that is off.
-use Rattle.std.specs.Prelude.{◌≡◌, List, [], ◌∷◌, ◌++◌, Bool, flat_map}
+use Rattle.std.specs.Prelude.{◌≡◌, List, [], ◌∷◌, ◌++◌, Bool, Option, flat_map}
 use Rattle.json.specs.Token.{begin_object}
 use Rattle.cargo_workspaces.specs.Workspaces.{Text, PackageText, WorkspaceText}
-use Rattle.cargo_plans.specs.Plans.{WordsText}
+use Rattle.cargo_plans.specs.plan_steps.Plans.{PlanText}
+use Rattle.cargo_plans.specs.Plans.{IsPlanOf, WordsText}
 use Rattle.feats_words.specs.declared.command_arguments.Format.{Format}
 use Rattle.feats_words.specs.declared.command_arguments.Format.TheVariants as format
 use Rattle.line_parts.specs.Members.{object_line}
 use Rattle.plan_widenings.specs.Widenings.{widened, widenings}
 use Rattle.plan_widenings.specs.declared.widening.Widening.{Widening}
-use Rattle.widening_lines.specs.Lines.{off_line, widening_lines}
-use Rattle.why_nots.specs.Answers.{AnswerText, IsAnswer}
+use Rattle.widening_lines.specs.Lines.{head_line, widening_lines}
+use Rattle.why_nots.specs.Answers.{AnswerText, IsAnswer, message_in}
 use Rattle.why_nots.specs.Lines.{said_of}
 use Rattle.why_nots.specs.Objects.{answer_tokens, head_tokens}
 use Rattle.why_nots.specs.Parts.{PartText, title_of}
 
--- The beginning of a text: a line that says that what has this title is off. Objects have none.
-abbrev pub head_line : Format → Text → Text
-head_line format.Text title = off_line title
-head_line format.Json title = []
+-- The beginning of a text: a line that says that what has this title is off, or the message about it. Objects have none.
+abbrev pub head_by : Format → Text → Option Text → Text
+head_by format.Text title message = head_line title message
+head_by format.Json title message = []
 
-abbrev pub head_text : Format → List PackageText → PartText → Text
-head_text form packages part = head_line form (title_of packages part)
+-- The beginning of the text about a part, by the plan of the words.
+abbrev pub head_text : Format → WorkspaceText → WordsText → PlanText → PartText → Text
+head_text form w words plan part = head_by form (title_of w.packages part) (message_in w words plan part)
 
 -- What is said of a widening, where its words have this answer about the part.
 abbrev pub section_text : Format → List PackageText → WordsText → Widening → PartText → AnswerText → Text
@@ -37,8 +39,10 @@ pub record IsSection (form : Format) (w : WorkspaceText) (words : WordsText) (v 
 abbrev pub AreSections : Format → WorkspaceText → WordsText → (Text → Bool) → PartText → (Widening → Text) → Type 0
 AreSections form w words every part section = (v : Widening) → IsSection form w (widened every v words) v part (section v)
 
--- THE TEXT about a part: what is said of it for each widening.
+-- THE TEXT about a part that isn't built in the plan of the words: what is said of it for each widening.
 pub record IsWhyNotText (form : Format) (w : WorkspaceText) (words : WordsText) (every : Text → Bool) (part : PartText) (text : Text) : Type 0 where
+  pub plan : PlanText
+  pub is_plan : IsPlanOf w words plan
   pub section : Widening → Text
   pub are_sections : AreSections form w words every part section
-  pub is_text : text ≡ head_text form w.packages part ++ flat_map section widenings
+  pub is_text : text ≡ head_text form w words plan part ++ flat_map section widenings

@@ -1,8 +1,9 @@
-//! The answers about features that are off: what more of a selection turns them on.
+//! The answers about features that aren't built: what more of a selection turns them on.
 #![tactic(auto)]
 
 mod answer;
 mod base;
+mod builds;
 mod joined;
 mod labels;
 mod messages;
@@ -11,7 +12,9 @@ mod parts;
 mod sections;
 mod settings;
 mod spots;
+mod standings;
 mod texts;
+mod unbuilt;
 mod widened_sections;
 
 pub use parts::OffPart;

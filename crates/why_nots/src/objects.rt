@@ -57,6 +57,14 @@ fn write_explained(
     writer.end_array()
 }
 
+/// Writes the answer that a part is on and isn't built; `message` says so.
+fn write_unbuilt(writer: &mut Writer, message: &str) -> Result<(), AllocError>
+    ensures { OnOk result (Appends writer.old writer.new (spec.unbuilt_tokens message.now)) }
+{
+    write_flag(writer, "on", false)?;
+    write_member(writer, "message", message)
+}
+
 /// Writes the answer that there is no plan; `message` says why.
 fn write_refused(writer: &mut Writer, message: &str) -> Result<(), AllocError>
     ensures { OnOk result (Appends writer.old writer.new (spec.refused_tokens message.now)) }
@@ -78,6 +86,7 @@ fn write_answer(
 {
     match answer {
         Answer::Explained(steps) => write_explained(alloc, writer, workspace, words, steps),
+        Answer::Unbuilt(message) => write_unbuilt(writer, message),
         Answer::Off => write_flag(writer, "on", false),
         Answer::NotPlanned(message) => write_refused(writer, message),
     }

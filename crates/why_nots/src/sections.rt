@@ -61,6 +61,7 @@ fn lines_of_answer(
 {
     match answer {
         Answer::Explained(steps) => explained_lines(alloc, workspace, words, widening, steps),
+        Answer::Unbuilt(message) => lines_by(alloc, widening, Said::Unbuilt(message)),
         Answer::Off => lines_by(alloc, widening, Said::Off),
         Answer::NotPlanned(message) => lines_by(alloc, widening, Said::NotPlanned(message)),
     }

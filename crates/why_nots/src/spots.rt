@@ -1,36 +1,42 @@
 //! The spots at which parts are looked for.
 ghost use Rattle.std.specs.Prelude.{◌≡◌, IfOk, map};
 ghost use Rattle.std.specs.List.{list_any};
+ghost use Rattle.built_parts.specs.BuiltViews.{state_in};
 ghost use Rattle.cargo_plans.specs.plan_steps.PlanViews.{plan_text};
 ghost use Rattle.plan_whys.specs.StepViews.{spot_text};
 ghost use Rattle.why_nots.specs.PartView.{part_text};
 ghost use Rattle.why_nots.specs.inner.Lists as spec;
 
+use crate::builds::Builds;
 use crate::parts::{OffPart, spot_on};
+use crate::standings::{Standing, standing_of};
 use cargo_plans::Plan;
+use plan_rows::Side;
 use plan_whys::Spot;
 use plan_widenings::sides_of;
 use std::alloc::{AllocError, Global};
 
-/// Returns `part` on the first side on which it is on in `plan`; on the host, if it is off.
-fn first_spot<'w>(plan: &Plan<'_>, part: OffPart<'w>) -> Spot<'w>
-    ensures { spot_text result ≡ spec.first_spot (plan_text plan.now).on (part_text part.entry) }
+/// Returns `part` on the side on which it is built; on the target side, if it isn't.
+fn first_spot<'w>(builds: &Builds<'_>, part: OffPart<'w>) -> Spot<'w>
+    ensures { spot_text result ≡ spec.first_spot (state_in builds.now.parts) (part_text part.entry) }
 {
-    let sides = sides_of(plan, part.package, part.label);
-    spot_on(sides.first(), part)
+    match standing_of(&builds.parts, part) {
+        Standing::BuiltOn(side) => spot_on(side, part),
+        Standing::UnbuiltOn(_) | Standing::Off => spot_on(Side::Target, part),
+    }
 }
 
-/// Returns the first spot of each of `parts`.
+/// Returns the spot of each of `parts` on the side on which it is built, or on the target side.
 pub(crate) fn first_spots<'w>(
     alloc: Global,
-    plan: &Plan<'_>,
+    builds: &Builds<'_>,
     parts: &[OffPart<'w>],
 ) -> Result<Vec<Spot<'w>>, AllocError>
-    ensures { IfOk result (λ spots. map spot_text spots.items ≡ map (spec.first_spot (plan_text plan.now).on) (map part_text parts.now)) }
+    ensures { IfOk result (λ spots. map spot_text spots.items ≡ map (spec.first_spot (state_in builds.now.parts)) (map part_text parts.now)) }
 {
     let mut spots = Vec::with_capacity(alloc, parts.len())?;
     for part in parts {
-        spots.push(first_spot(plan, *part))?;
+        spots.push(first_spot(builds, *part))?;
     }
     Ok(spots)
 }

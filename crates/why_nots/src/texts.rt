@@ -1,5 +1,5 @@
-//! The texts about parts that are off.
-ghost use Rattle.std.specs.Prelude.{◌≡◌, List, IfOk, map, string_bytes};
+//! The texts about parts that aren't built.
+ghost use Rattle.std.specs.Prelude.{◌≡◌, List, IfOk, map, option_map, string_bytes};
 ghost use Rattle.std.specs.List.{AllZip};
 ghost use Rattle.cargo_plans.specs.Plans.{IsPlanOf};
 ghost use Rattle.cargo_plans.specs.WordsView.{words_text};
@@ -8,12 +8,14 @@ ghost use Rattle.cargo_workspaces.specs.Workspaces.{Text};
 ghost use Rattle.cargo_workspaces.specs.WorkspaceView.{workspace_text};
 ghost use Rattle.plan_platforms.specs.HeldSpecs.{holds_on};
 ghost use Rattle.plan_widenings.specs.Widenings.{widened};
-ghost use Rattle.widening_lines.specs.Lines.{off_line};
+ghost use Rattle.widening_lines.specs.Lines.{head_line};
 ghost use Rattle.why_nots.specs.PartView.{part_text};
 ghost use Rattle.why_nots.specs.Texts as spec;
-ghost use Rattle.why_nots.specs.inner.Lists.{joined as joined_texts, texts_of};
+ghost use Rattle.why_nots.specs.inner.Lists as lists;
+ghost use Rattle.why_nots.specs.inner.Lists.{joined as joined_texts, optional_texts, texts_of};
 
 use crate::base::{Base, sections_by};
+use crate::builds::{builds_of, messages_about};
 use crate::joined::joined;
 use crate::parts::{OffPart, titles_of};
 use cargo_plans::{Plan, PlanWords};
@@ -22,49 +24,63 @@ use feats_words::Format;
 use plan_platforms::HeldSpecs;
 use plan_widenings::Widening;
 use std::alloc::{AllocError, Global};
-use widening_lines::push_off;
+use widening_lines::push_head;
 
-/// Returns the line that says that `name` is off.
-fn off_line_of(alloc: Global, name: &str) -> Result<Vec<u8>, AllocError>
-    ensures { IfOk result (λ text. text.items ≡ off_line name.now) }
+/// Returns the line that says that `name` is off, or the message about it.
+fn head_line_of(alloc: Global, name: &str, message: Option<&str>) -> Result<Vec<u8>, AllocError>
+    ensures { IfOk result (λ text. text.items ≡ head_line name.now (option_map (λ t. t.now) message.entry)) }
 {
     let mut text = Vec::new(alloc);
-    push_off(alloc, &mut text, name)?;
+    push_head(alloc, &mut text, name, message)?;
     Ok(text)
 }
 
-/// Returns the beginning of the text about a part with the title `title`.
-fn head_of(alloc: Global, form: Format, title: &str) -> Result<Vec<u8>, AllocError>
-    ensures { IfOk result (λ text. text.items ≡ spec.head_line form title.now) }
+/// Returns the beginning of the text about a part with the title `title`, which has `message` if it is on and isn't built.
+fn head_by(
+    alloc: Global,
+    form: Format,
+    title: &str,
+    message: &Option<String>,
+) -> Result<Vec<u8>, AllocError>
+    ensures { IfOk result (λ text. text.items ≡ spec.head_by form title.now (option_map string_bytes message.now)) }
 {
-    match form {
-        Format::Text => off_line_of(alloc, title),
-        Format::Json => Ok(Vec::new(alloc)),
+    match (form, message) {
+        (Format::Text, Some(message)) => head_line_of(alloc, title, Some(message.as_str())),
+        (Format::Text, None) => head_line_of(alloc, title, None),
+        (Format::Json, _) => Ok(Vec::new(alloc)),
     }
 }
 
-/// Returns the beginnings of the texts about parts with these titles.
-fn heads_by(alloc: Global, form: Format, titles: &[String]) -> Result<Vec<Vec<u8>>, AllocError>
-    ensures { IfOk result (λ heads. texts_of heads.items ≡ map (spec.head_line form) (map string_bytes titles.now)) }
+/// Returns the beginnings of the texts about parts with these titles and messages.
+fn heads_by(
+    alloc: Global,
+    form: Format,
+    titles: &[String],
+    messages: &[Option<String>],
+) -> Result<Vec<Vec<u8>>, AllocError>
+    ensures { IfOk result (λ heads. texts_of heads.items ≡ lists.heads_by form (map string_bytes titles.now) (optional_texts messages.now)) }
 {
     let mut heads = Vec::with_capacity(alloc, titles.len())?;
-    for title in titles {
-        heads.push(head_of(alloc, form, title.as_str())?)?;
+    for (title, message) in titles.iter().zip(messages) {
+        heads.push(head_by(alloc, form, title.as_str(), message)?)?;
     }
     Ok(heads)
 }
 
-/// Returns the beginnings of the texts about `parts`.
+/// Returns the beginnings of the texts about `parts`, by the plan of the build `base`.
 fn heads_of(
     alloc: Global,
     form: Format,
-    workspace: &Workspace<'_>,
+    base: Base<'_, '_, '_, '_, '_, '_>,
     parts: &[OffPart<'_>],
 ) -> Result<Vec<Vec<u8>>, AllocError>
-    ensures { IfOk result (λ texts. texts_of texts.items ≡ map (spec.head_text form (workspace_text workspace.now).packages) (map part_text parts.now)) }
+    ensures { IfOk result (λ texts. texts_of texts.items ≡ map (spec.head_text form (workspace_text base.entry.workspace.now) (words_text holds_on base.entry.words.now) (plan_text base.entry.plan.now)) (map part_text parts.now)) }
 {
+    let workspace = base.workspace;
     let titles = titles_of(alloc, workspace, parts)?;
-    heads_by(alloc, form, &titles)
+    let builds = builds_of(alloc, workspace, base.words, base.plan)?;
+    let messages = messages_about(alloc, workspace, &builds, parts)?;
+    heads_by(alloc, form, &titles, &messages)
 }
 
 /// Returns `texts`, each followed by the section about `widening` of the build `base` and the part at the same place in `parts`.
@@ -85,9 +101,9 @@ fn with_sections(
     joined(alloc, texts, &sections)
 }
 
-/// Returns the texts about `parts`, which are off by `words`, whose plan is `plan`: for each widening of the selection, whether the part is
-/// on there, and why; or why there is no plan. If a part is off with all of them together, the last line of its text says that no choice of
-/// members, features, tests and platforms turns it on. `every` is the platform on which each platform spec of `workspace` holds. A widening
+/// Returns the texts about `parts`, which aren't built by `words`, whose plan is `plan`: for each widening of the selection, whether the part
+/// is built there, and why; that it is on there and isn't built; or why there is no plan. If a part is off with all of them together, the last
+/// line of its text says that no choice of members, features of members, tests and platforms turns it on. `every` is the platform on which each platform spec of `workspace` holds. A widening
 /// that adds to the words needs one plan.
 pub fn why_not_texts<'n, 's>(
     alloc: Global,
@@ -107,7 +123,7 @@ pub fn why_not_texts<'n, 's>(
         plan,
         every,
     };
-    let mut texts = heads_of(alloc, form, workspace, parts)?;
+    let mut texts = heads_of(alloc, form, base, parts)?;
     let all = Widening::all();
     for widening in &all {
         texts = with_sections(alloc, form, base, *widening, parts, &texts)?;

@@ -8,14 +8,14 @@ ghost use Rattle.cargo_workspaces.specs.WorkspaceView.{workspace_text};
 ghost use Rattle.plan_messages.specs.Messages.{plan_message};
 ghost use Rattle.plan_platforms.specs.HeldSpecs.{holds_on};
 ghost use Rattle.cargo_plans.specs.plan_steps.PlanViews.{plan_text};
-ghost use Rattle.plan_whys.specs.StepViews.{found_text};
 ghost use Rattle.why_nots.specs.Answers.{not_planned};
 ghost use Rattle.why_nots.specs.PartView.{part_text};
 ghost use Rattle.why_nots.specs.Texts.{IsSection};
 ghost use Rattle.why_nots.specs.inner.Lists as spec;
 ghost use Rattle.why_nots.specs.inner.Lists.{answer_text, texts_of};
 
-use crate::answer::{Answer, answer_of};
+use crate::answer::{Answer, answers_by};
+use crate::builds::{builds_of, messages_about};
 use crate::messages::message_of;
 use crate::parts::OffPart;
 use crate::sections::section_of;
@@ -24,26 +24,26 @@ use cargo_plans::{Plan, PlanFault, PlanWords, plan};
 use cargo_workspaces::Workspace;
 use feats_words::Format;
 use plan_platforms::HeldSpecs;
-use plan_whys::{WhyStep, why_each};
+use plan_whys::why_each;
 use plan_widenings::Widening;
 use std::alloc::{AllocError, Global};
 
-/// Returns the sections about `widening` and each of `parts`. The steps that explain a part are at its place in `founds`.
-fn found_sections(
+/// Returns the sections about `widening` and each of `parts`. The answer about a part is at its place in `answers`.
+fn answer_sections(
     alloc: Global,
     form: Format,
     workspace: &Workspace<'_>,
     words: &PlanWords<'_, '_, HeldSpecs<'_>>,
     widening: Widening,
     parts: &[OffPart<'_>],
-    founds: &[Option<Vec<WhyStep<'_>>>],
+    answers: &[Answer<'_, '_>],
 ) -> Result<Vec<Vec<u8>>, AllocError>
-    ensures { IfOk result (λ sections. texts_of sections.items ≡ spec.found_sections form (workspace_text workspace.now).packages (words_text holds_on words.now) widening (map part_text parts.now) (map found_text founds.now)) }
+    ensures { IfOk result (λ sections. texts_of sections.items ≡ spec.answer_sections form (workspace_text workspace.now).packages (words_text holds_on words.now) widening (map part_text parts.now) (map answer_text answers.now)) }
 {
     let mut sections = Vec::with_capacity(alloc, parts.len())?;
-    for (part, found) in parts.iter().zip(founds) {
-        let answer = answer_of(found);
-        sections.push(section_of(alloc, form, workspace, words, widening, *part, answer)?)?;
+    for (part, answer) in parts.iter().zip(answers) {
+        let section = section_of(alloc, form, workspace, words, widening, *part, *answer)?;
+        sections.push(section)?;
     }
     Ok(sections)
 }
@@ -80,9 +80,12 @@ fn explained_sections(
     requires { IsPlanOf (workspace_text workspace.now) (words_text holds_on words.now) (plan_text plan.now) }
     ensures { IfOk result (λ sections. AllZip (IsSection form (workspace_text workspace.now) (words_text holds_on words.now) widening) (map part_text parts.now) (texts_of sections.items)) }
 {
-    let spots = first_spots(alloc, plan, parts)?;
+    let builds = builds_of(alloc, workspace, words, plan)?;
+    let messages = messages_about(alloc, workspace, &builds, parts)?;
+    let spots = first_spots(alloc, &builds, parts)?;
     let founds = why_each(alloc, workspace, words, plan, &spots)?;
-    found_sections(alloc, form, workspace, words, widening, parts, &founds)
+    let answers = answers_by(alloc, &messages, &founds)?;
+    answer_sections(alloc, form, workspace, words, widening, parts, &answers)
 }
 
 /// Returns the sections about `widening` and each of `parts`, by `plan`, the plan of the words `words` of `widening`. The plan is walked only

@@ -1,14 +1,16 @@
 -- What an answer says of a feature that is off, for each widening of the selection.
-use Rattle.std.specs.Prelude.{ℕ, [], ◌∷◌, ◌++◌, Bool, true, flat_map, codes, ◌==◌, if◌then◌else◌}
+use Rattle.std.specs.Prelude.{ℕ, [], ◌∷◌, ◌++◌, Bool, true, false, Option, None, Some, flat_map, codes, ◌==◌, if◌then◌else◌}
 use Rattle.cargo_workspaces.specs.Workspaces.{Text}
 use Rattle.plan_widenings.specs.declared.widening.Widening.{Widening}
 use Rattle.plan_widenings.specs.declared.widening.Widening.TheVariants as widening
 use Rattle.plan_widenings.specs.Widenings.{widenings}
 use Rattle.shown_texts.specs.Shown.{escaped}
 
--- The feature is on, with the lines that explain it; it is off; or there is no plan, with the message why.
+-- The feature is on, with the lines that explain it; it is asked for and not built, with the message about that; it is off; or there is no
+-- plan, with the message why.
 pub data SaidText : Type 0 where
   on_by : Text → SaidText
+  unbuilt : Text → SaidText
   off : SaidText
   not_planned : Text → SaidText
 
@@ -30,25 +32,36 @@ indented_from starts (c ∷ cs) = (if starts then codes "    " else []) ++ c ∷
 abbrev pub indented : Text → Text
 indented text = indented_from true text
 
+-- The end of a line: a text and a message. Each further line of the message is after four spaces.
+abbrev pub message_line : Text → Text → Text
+message_line begins message = begins ++ (indented_from false message ++ codes "\n")
+
 -- What follows the heading.
 abbrev pub said_lines : SaidText → Text
 said_lines (on_by lines) = codes ": on\n" ++ indented lines
+said_lines (unbuilt message) = message_line (codes ": ") message
 said_lines off = codes ": off\n"
-said_lines (not_planned message) = codes ": not planned: " ++ (message ++ codes "\n")
+said_lines (not_planned message) = message_line (codes ": not planned: ") message
 
--- What follows, if the feature is off with all widenings together.
+-- The sentence about a feature that is off with all widenings together.
+abbrev pub sentence : Text
+sentence = codes "no choice of members, features of members, tests and platforms turns it on"
+
+-- The line with the sentence, after all widenings together.
 abbrev pub closing : Widening → SaidText → Text
-closing widening.Together off = codes "no choice of members, their features, tests and platforms turns it on\n"
+closing widening.Together off = sentence ++ codes "\n"
 closing _ _ = []
 
 -- The lines about a widening.
 abbrev pub widening_lines : Widening → SaidText → Text
 widening_lines v said = heading v ++ (said_lines said ++ closing v said)
 
--- Control characters in the name are escaped.
-abbrev pub off_line : Text → Text
-off_line name = escaped name ++ codes " is off\n"
+-- The line that begins an answer about the feature `name`: it is off; or it is asked for and not built, with the message about that. Control
+-- characters in the name are escaped.
+abbrev pub head_line : Text → Option Text → Text
+head_line name None = escaped name ++ codes " is off\n"
+head_line name (Some message) = escaped name ++ message_line (codes " is ") message
 
 -- THE LINES of an answer about the feature `name`, by what is said of each widening.
-abbrev pub why_not_lines : Text → (Widening → SaidText) → Text
-why_not_lines name said = off_line name ++ flat_map (λ v. widening_lines v (said v)) widenings
+abbrev pub why_not_lines : Text → Option Text → (Widening → SaidText) → Text
+why_not_lines name message said = head_line name message ++ flat_map (λ v. widening_lines v (said v)) widenings

@@ -6,5 +6,6 @@ use Rattle.widening_lines.specs.declared.said.Said.TheVariants as said
 
 abbrev pub said_text : Said → SaidText
 said_text (said.On lines) = spec.on_by lines.now
+said_text (said.Unbuilt message) = spec.unbuilt message.now
 said_text said.Off = spec.off
 said_text (said.NotPlanned message) = spec.not_planned message.now

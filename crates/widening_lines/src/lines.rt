@@ -1,5 +1,5 @@
 //! An answer as text.
-ghost use Rattle.std.specs.Prelude.{◌≡◌, ◌++◌, ◌∷◌, [], OnOk, codes, if◌then◌else◌};
+ghost use Rattle.std.specs.Prelude.{◌≡◌, ◌++◌, ◌∷◌, [], OnOk, codes, option_map, if◌then◌else◌};
 ghost use Rattle.widening_lines.specs.Lines as spec;
 ghost use Rattle.widening_lines.specs.SaidView.{said_text};
 
@@ -27,16 +27,25 @@ fn push_byte(text: &mut Vec<u8>, starts: bool, byte: u8) -> Result<(), AllocErro
     Ok(())
 }
 
-/// Appends `lines`, each after four spaces.
-fn push_indented(text: &mut Vec<u8>, lines: &str) -> Result<(), AllocError>
-    ensures { OnOk result (text.new.items ≡ text.old.items ++ spec.indented lines.now) }
+/// Appends `lines`, each after four spaces, but for the first one if `at_start` is false.
+fn push_indented(text: &mut Vec<u8>, at_start: bool, lines: &str) -> Result<(), AllocError>
+    ensures { OnOk result (text.new.items ≡ text.old.items ++ spec.indented_from at_start lines.now) }
 {
-    let mut starts = true;
+    let mut starts = at_start;
     for byte in lines.as_bytes() {
         push_byte(text, starts, *byte)?;
         starts = *byte == b'\n';
     }
     Ok(())
+}
+
+/// Appends `begins` and `message`, which end a line.
+fn push_message(text: &mut Vec<u8>, begins: &str, message: &str) -> Result<(), AllocError>
+    ensures { OnOk result (text.new.items ≡ text.old.items ++ spec.message_line begins.now message.now) }
+{
+    push(text, begins)?;
+    push_indented(text, false, message)?;
+    push(text, "\n")
 }
 
 /// Appends what follows the heading.
@@ -46,14 +55,11 @@ fn push_said(text: &mut Vec<u8>, said: Said<'_>) -> Result<(), AllocError>
     match said {
         Said::On(lines) => {
             push(text, ": on\n")?;
-            push_indented(text, lines)
+            push_indented(text, true, lines)
         }
+        Said::Unbuilt(message) => push_message(text, ": ", message),
         Said::Off => push(text, ": off\n"),
-        Said::NotPlanned(message) => {
-            push(text, ": not planned: ")?;
-            push(text, message)?;
-            push(text, "\n")
-        }
+        Said::NotPlanned(message) => push_message(text, ": not planned: ", message),
     }
 }
 
@@ -64,19 +70,28 @@ fn push_closing(text: &mut Vec<u8>, widening: Widening, said: Said<'_>) -> Resul
     match (widening, said) {
         (Widening::Together, Said::Off) => push(
             text,
-            "no choice of members, their features, tests and platforms turns it on\n",
+            "no choice of members, features of members, tests and platforms turns it on\n",
         ),
         _ => Ok(()),
     }
 }
 
-/// Appends the line that begins an answer about `name`. Control characters in the name are escaped.
-pub fn push_off(alloc: Global, text: &mut Vec<u8>, name: &str) -> Result<(), AllocError>
-    ensures { OnOk result (text.new.items ≡ text.old.items ++ spec.off_line name.now) }
+/// Appends the line that begins an answer about the feature `name`: that it is off, or is
+/// what `unbuilt` says if it is asked for and not built. Control characters in the name are escaped.
+pub fn push_head(
+    alloc: Global,
+    text: &mut Vec<u8>,
+    name: &str,
+    unbuilt: Option<&str>,
+) -> Result<(), AllocError>
+    ensures { OnOk result (text.new.items ≡ text.old.items ++ spec.head_line name.now (option_map (λ t. t.now) unbuilt.entry)) }
 {
     let name = escaped(alloc, name)?;
     push(text, name.as_str())?;
-    push(text, " is off\n")
+    match unbuilt {
+        None => push(text, " is off\n"),
+        Some(message) => push_message(text, " is ", message),
+    }
 }
 
 /// Appends the lines about `widening`: whether the feature is on there, and why. If it is off with all widenings together, the last line

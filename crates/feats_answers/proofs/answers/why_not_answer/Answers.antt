@@ -29,7 +29,7 @@ returns-clause-answer c =
       are_parts = c.in_ok-named.ensures.parts;
       shown = shown;
       are_shown = subst (λ (parts : List PartText). AllZip (IsWhyNotText form w words every) parts shown)
-          (ap (map part_text) c.deref-2.ensures.value ∙ c.in_ok-off.ensures ∙ ap (λ ns. off_parts plan (map named_text ns)) c.deref.ensures.value) c.in_ok-texts.ensures;
+          (ap (map part_text) c.deref-2.ensures.value ∙ c.in_ok-off.ensures ∙ ap (λ ns. off_parts words.selection.split plan (map named_text ns)) c.deref.ensures.value) c.in_ok-texts.ensures;
       is_answer = c.in_ok-gathered.ensures
           ∙ ap (λ ns. gathered form w.packages c.args.word.now (map named_text ns) on_end (texts_of c.deref-4.result.now)) c.deref-3.ensures.value
           ∙ ap (λ ts. gathered form w.packages c.args.word.now (map named_text named) on_end (texts_of ts)) c.deref-4.ensures.value;

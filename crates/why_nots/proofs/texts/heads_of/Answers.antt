@@ -1,15 +1,35 @@
-use mathlib.Core.List.{map-map}
-use Rattle.std.proofs.Common.{◌∙◌, ap, map}
+use Rattle.std.proofs.Common.{◌∙◌, ap, map, refl}
 use Rattle.std.proofs.lemmas.Result.{IfOk-weaker}
 use Rattle.std.specs.Prelude.{string_bytes}
+use Rattle.built_parts.specs.BuiltViews.{script_in, state_in}
+use Rattle.cargo_plans.specs.WordsView.{words_text}
+use Rattle.cargo_plans.specs.plan_steps.PlanViews.{plan_text}
 use Rattle.cargo_workspaces.specs.WorkspaceView.{workspace_text}
+use Rattle.plan_platforms.specs.HeldSpecs.{holds_on}
+use Rattle.why_nots.specs.Answers.{message_in}
 use Rattle.why_nots.specs.PartView.{part_text}
 use Rattle.why_nots.specs.Parts.{title_of}
-use Rattle.why_nots.specs.Texts.{head_line}
+use Rattle.why_nots.specs.Texts.{head_text}
+use Rattle.why_nots.specs.inner.Lists.{heads_by, optional_texts, pair_head}
+use Rattle.why_nots.proofs.FoundLemmas.{messages_are}
+use Rattle.why_nots.proofs.Zips.{zip_maps}
 use Rattle.why_nots.proofs.texts.heads_of.Goals as goal
 
 pub returns : goal.returns
 returns c =
-    let head = head_line c.args.form in
+    let form = c.args.form in
+    let w = workspace_text c.args.base.workspace.now in
+    let words = words_text holds_on c.args.base.words.now in
+    let plan = plan_text c.args.base.plan.now in
+    let parts = map part_text c.args.parts.now in
+    let builds = c.in_ok-builds.builds in
+    let facts = c.in_ok-builds.ensures in
+    let messages = c.in_ok-messages.messages.items in
+    let are = messages_are w words plan (state_in builds.parts) (script_in builds.scripts) facts.parts facts.scripts builds.split parts (optional_texts messages) facts.split c.in_ok-messages.ensures in
     let titles = ap (map string_bytes) c.deref.ensures.value ∙ c.in_ok-titles.ensures in
-    IfOk-weaker c.heads_by.result _ _ (λ heads h. h ∙ ap (map head) titles ∙ map-map head (title_of (workspace_text c.args.workspace.now).packages) (map part_text c.args.parts.now)) c.heads_by.ensures
+    IfOk-weaker c.heads_by.result _ _ (λ heads h.
+    h
+    ∙ ap (λ ts. heads_by form ts (optional_texts c.deref-2.result.now)) titles
+    ∙ ap (λ ms. heads_by form (map (title_of w.packages) parts) (optional_texts ms)) c.deref-2.ensures.value
+    ∙ ap (λ ms. heads_by form (map (title_of w.packages) parts) ms) are
+    ∙ zip_maps (pair_head form) (title_of w.packages) (message_in w words plan) (head_text form w words plan) (λ part. refl) parts) c.heads_by.ensures
