@@ -73,7 +73,7 @@ def word_faults():
     yield 'a host without a file', ['plan', '--metadata', '-', '--host', HOST], f'`{HOST}` {shape}'
     yield 'a target without a file', [*usual, '--target', WINDOWS], f'`{WINDOWS}` {shape}'
     yield 'a resolver', [*usual, '--resolver', '4'], "`4` isn't a version of the resolver: write 1, 2 or 3"
-    yield 'two resolvers', [*usual, '--resolver', '1', '--manifest', '{none}'], '--resolver and --manifest are both given: leave one out'
+    yield 'two resolvers', [*usual, '--resolver', '1', '--manifest', '{none}'], '--resolver and a manifest are both given: leave one out'
     yield 'a format', [*usual, '--format', 'xml'], "`xml` isn't a format: write text or json"
     for word in ('json', 'text', 'xml'):
         yield f'the format {word} of dot', ['dot', *usual[1:], '--format', word], '`dot` prints a graph for Graphviz: leave --format out'

@@ -1,6 +1,7 @@
 pub mod Builds
 pub mod CommandLines
 pub mod Comparisons
+pub mod Documents
 pub mod Formats
 pub mod Sides
 pub mod SideView

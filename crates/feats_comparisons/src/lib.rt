@@ -4,12 +4,14 @@
 mod builds;
 mod command_lines;
 mod comparing;
+mod documents;
 mod formats;
 mod sides;
 mod visitors;
 
 pub use command_lines::{ComparedWords, compared_words};
 pub use comparing::{compare, run};
+pub use documents::{ComparedRequests, compared_requests};
 pub use feats_differences::Answer;
 pub use formats::one_format;
 pub use sides::Side;
