@@ -1,5 +1,5 @@
 -- From the arguments and the bytes of files to a plan with a property, or to the message why there is none.
-use Rattle.std.specs.Prelude.{◌≡◌, List, [], ◌∷◌, Bool, None, Ok, IsErr, IsSomeAnd, IsUtf8, codes}
+use Rattle.std.specs.Prelude.{◌≡◌, List, [], ◌∷◌, Bool, true, false, IsFalse, None, Ok, IsErr, IsSomeAnd, IsUtf8, codes}
 use Rattle.json.specs.Json.{Json}
 use Rattle.cargo_workspaces.specs.Workspaces.{Text, WorkspaceText}
 use Rattle.numbered_workspaces.specs.Faults.{workspace_in}
@@ -10,6 +10,7 @@ use Rattle.cargo_plans.specs.plan_steps.Plans.{PlanText}
 use Rattle.cargo_plans.specs.Plans.{WordsText, IsPlanOf}
 use Rattle.cargo_plans.specs.Refusals.{IsRefusal}
 use Rattle.cargo_plans.specs.declared.fault.PlanFault.{PlanFault}
+use Rattle.cargo_plans.specs.declared.fault.PlanFault.TheVariants as fault
 use Rattle.feats_files.specs.Documents.{document}
 use Rattle.feats_files.specs.Messages.{joined}
 use Rattle.feats_files.specs.Platforms.{AreHeldOnEach, IsSpecRefusal}
@@ -27,9 +28,14 @@ pub record AfterPlan (inputs : InputsText) (w : WorkspaceText) (words : WordsTex
   pub is_plan : IsPlanOf w words plan
   pub holds : Q (planned inputs w words plan)
 
+-- Whether the fault is that of an allocation, of which `IsRefusal` claims nothing.
+abbrev pub is_memory : PlanFault → Bool
+is_memory fault.Memory = true
+is_memory _ = false
+
 -- The message why there is none: the words have no plan, or the plan is refused.
 pub data IsPlanRefusal (inputs : InputsText) (w : WorkspaceText) (words : WordsText) (R : PlannedText → Text → Type 0) (message : Text) : Type 0 where
-  no_plan : (fault : PlanFault) → IsRefusal w words fault → message ≡ plan_message w.packages fault → IsPlanRefusal inputs w words R message
+  no_plan : (fault : PlanFault) → IsRefusal w words fault → IsFalse (is_memory fault) → message ≡ plan_message w.packages fault → IsPlanRefusal inputs w words R message
   of_plan : (plan : PlanText) → IsPlanOf w words plan → R (planned inputs w words plan) message → IsPlanRefusal inputs w words R message
 
 -- Which platform specs of the workspace hold for the host, and for each of the targets.
