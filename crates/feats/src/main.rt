@@ -13,7 +13,8 @@ use byte_devices::{ByteInput, FromReader, ToWriter};
 use clap::Error;
 use clap::error::ErrorKind as MistakeKind;
 use feats_comparisons::{
-    Side, compared_requests, compared_words, one_format, run as run_difference,
+    SideInputs, compared_requests, compared_words, one_format, run as run_difference,
+    run_by_one_document,
 };
 use feats_files::{
     Ended, Fault, PlatformFile, bytes_of, no_command, not_text, refused, unopened, write_answer,
@@ -54,15 +55,8 @@ fn document_bytes(rt: &HostRuntime, path: &str) -> Result<Vec<u8>, Fault> {
     file_bytes(rt, path)
 }
 
-/// The files of the old side of `diff`, which were read before those of the new one.
-#[derive(Clone, Copy)]
-struct OldFiles<'o, 'a, 'f> {
-    arguments: &'o CommandArguments<'a>,
-    files: &'o PlanFiles<'f>,
-}
-
 /// Returns the bytes of the manifest or the cfg text at `path`, if it is one of `old`: a pipe can be read only once.
-fn known_bytes<'o>(old: Option<OldFiles<'o, '_, '_>>, path: &str) -> Option<&'o [u8]> {
+fn known_bytes<'o>(old: Option<SideInputs<'o, '_, '_>>, path: &str) -> Option<&'o [u8]> {
     let old = old?;
     match old.arguments.resolver {
         ResolverSource::Manifest(manifest) if manifest == path => return Some(&old.files.manifest),
@@ -90,7 +84,7 @@ fn copied(alloc: Global, bytes: &[u8]) -> Result<Vec<u8>, AllocError> {
 fn manifest(
     rt: &HostRuntime,
     source: ResolverSource<'_>,
-    old: Option<OldFiles<'_, '_, '_>>,
+    old: Option<SideInputs<'_, '_, '_>>,
 ) -> Result<Vec<u8>, Fault> {
     match source {
         ResolverSource::Version(_) => Ok(Vec::new(rt.alloc())),
@@ -119,7 +113,7 @@ fn policy(rt: &HostRuntime, arguments: &CommandArguments<'_>) -> Result<Vec<u8>,
 fn platform<'f>(
     rt: &HostRuntime,
     word: PlatformWord<'f>,
-    old: Option<OldFiles<'_, '_, '_>>,
+    old: Option<SideInputs<'_, '_, '_>>,
 ) -> Result<PlatformFile<'f>, Fault> {
     if let Some(bytes) = known_bytes(old, word.path) {
         return Ok(PlatformFile {
@@ -135,7 +129,7 @@ fn platform<'f>(
 fn platforms<'f>(
     rt: &HostRuntime,
     words: &[PlatformWord<'f>],
-    old: Option<OldFiles<'_, '_, '_>>,
+    old: Option<SideInputs<'_, '_, '_>>,
 ) -> Result<Vec<PlatformFile<'f>>, Fault> {
     let mut files = Vec::with_capacity(rt.alloc(), words.len())?;
     for word in words {
@@ -148,7 +142,7 @@ fn platforms<'f>(
 fn plan_files<'f>(
     rt: &HostRuntime,
     arguments: &CommandArguments<'f>,
-    old: Option<OldFiles<'_, '_, '_>>,
+    old: Option<SideInputs<'_, '_, '_>>,
 ) -> Result<PlanFiles<'f>, Fault> {
     let manifest = manifest(rt, arguments.resolver, old)?;
     let host = platform(rt, arguments.host, old)?;
@@ -206,58 +200,69 @@ fn write_bytes(rt: &HostRuntime, bytes: &[u8]) -> Result<bool, Fault> {
     outcome(ended, writer.is_closed())
 }
 
-/// Writes what differs between the builds of two sides. Returns whether anything does.
-fn write_difference(
+/// Compares the builds of `old` and `new`, which both have the document of `reader`. Returns whether they differ.
+fn compare_by_one<R: ByteInput>(
     rt: &HostRuntime,
-    old: Side<'_, '_, '_>,
-    new: Side<'_, '_, '_>,
-) -> Result<bool, Fault> {
+    old: SideInputs<'_, '_, '_>,
+    new: SideInputs<'_, '_, '_>,
+    reader: &mut R,
+) -> Result<bool, Fault>
+    requires { R.failed reader.old ≡ false }
+{
     let mut writer = ToWriter::new(io::writer(rt));
-    let ended = run_difference(rt.alloc(), old, new, &mut writer)?;
+    let ended = run_by_one_document(rt.alloc(), old, new, reader, &mut writer)?;
     outcome(ended, writer.is_closed())
 }
 
-/// Compares `old` with the side of `arguments` and `files`. Returns whether the builds differ.
-fn compare_with(
+/// Compares the builds of `old` and `new`, which have the documents of `old_reader` and `new_reader`. Returns whether they differ.
+fn compare_by_two<R: ByteInput, S: ByteInput>(
     rt: &HostRuntime,
-    old: Side<'_, '_, '_>,
-    arguments: &CommandArguments<'_>,
-    files: &PlanFiles<'_>,
-) -> Result<bool, Fault> {
-    // Standard input can be read only once.
-    if arguments.metadata == old.arguments.metadata {
-        let document = old.document;
-        let new = Side {
-            arguments,
-            files,
-            document,
-        };
-        return write_difference(rt, old, new);
-    }
-    let document = document_bytes(rt, arguments.metadata)?;
-    let new = Side {
-        arguments,
-        files,
-        document: &document,
-    };
-    write_difference(rt, old, new)
+    old: SideInputs<'_, '_, '_>,
+    new: SideInputs<'_, '_, '_>,
+    old_reader: &mut R,
+    new_reader: &mut S,
+) -> Result<bool, Fault>
+    requires old { R.failed old_reader.old ≡ false }
+    requires new { S.failed new_reader.old ≡ false }
+{
+    let mut writer = ToWriter::new(io::writer(rt));
+    let ended = run_difference(rt.alloc(), old, new, old_reader, new_reader, &mut writer)?;
+    outcome(ended, writer.is_closed())
 }
 
-/// Compares the builds of `old` and `new`, with these files. Returns whether they differ.
+/// Compares the builds of `old`, which has the document of `reader`, and `new`. Returns whether they differ.
+fn compare_with<R: ByteInput>(
+    rt: &HostRuntime,
+    old: SideInputs<'_, '_, '_>,
+    new: SideInputs<'_, '_, '_>,
+    reader: &mut R,
+) -> Result<bool, Fault>
+    requires { R.failed reader.old ≡ false }
+{
+    let path = new.arguments.metadata;
+    if path == old.arguments.metadata {
+        return compare_by_one(rt, old, new, reader);
+    }
+    if path == "-" {
+        let mut new_reader = FromReader::new(rt.stdin());
+        return compare_by_two(rt, old, new, reader, &mut new_reader);
+    }
+    let mut new_reader = opened(rt, path)?;
+    compare_by_two(rt, old, new, reader, &mut new_reader)
+}
+
+/// Compares the builds of `old` and `new`. Returns whether they differ.
 fn compare_sides(
     rt: &HostRuntime,
-    old: &CommandArguments<'_>,
-    old_files: &PlanFiles<'_>,
-    new: &CommandArguments<'_>,
-    new_files: &PlanFiles<'_>,
+    old: SideInputs<'_, '_, '_>,
+    new: SideInputs<'_, '_, '_>,
 ) -> Result<bool, Fault> {
-    let document = document_bytes(rt, old.metadata)?;
-    let side = Side {
-        arguments: old,
-        files: old_files,
-        document: &document,
-    };
-    compare_with(rt, side, new, new_files)
+    if old.arguments.metadata == "-" {
+        let mut reader = FromReader::new(rt.stdin());
+        return compare_with(rt, old, new, &mut reader);
+    }
+    let mut reader = opened(rt, old.arguments.metadata)?;
+    compare_with(rt, old, new, &mut reader)
 }
 
 /// Compares the builds of `old` and `new`. Returns whether they differ.
@@ -266,13 +271,17 @@ fn compare_arguments(
     old: &CommandArguments<'_>,
     new: &CommandArguments<'_>,
 ) -> Result<bool, Fault> {
-    let files = plan_files(rt, old, None)?;
-    let read = OldFiles {
+    let old_files = plan_files(rt, old, None)?;
+    let old = SideInputs {
         arguments: old,
-        files: &files,
+        files: &old_files,
     };
-    let new_files = plan_files(rt, new, Some(read))?;
-    compare_sides(rt, old, &files, new, &new_files)
+    let new_files = plan_files(rt, new, Some(old))?;
+    let new = SideInputs {
+        arguments: new,
+        files: &new_files,
+    };
+    compare_sides(rt, old, new)
 }
 
 /// Compares the builds of two requests. Returns whether they differ.

@@ -3,5 +3,6 @@ pub mod CommandLines
 pub mod Comparisons
 pub mod Documents
 pub mod Formats
+pub mod Run
 pub mod Sides
 pub mod SideView
