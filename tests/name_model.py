@@ -232,7 +232,7 @@ WORKED = [
 WORKED_RULES = [
     ([APP], "clap", ("several", [(OLD, None), (NEW, None), (PRE, None)])),
     ([APP], "cl*", ("named", [(OLD, None), (NEW, None), (PRE, None)])),
-    ([APP], "*", ("named", [(APP, None), (OTHER, None), (OLD, None), (NEW, None), (PRE, None), (LOG, None)])),
+    ([APP], "*", ("named", [(GIT, None), (APP, None), (OTHER, None), (OLD, None), (NEW, None), (PRE, None), (LOG, None)])),
     ([APP], "*@4", ("unknown",)),
     ([APP], "clap@4", ("named", [(NEW, None)])),
     ([APP], "clap@*", ("unknown",)),
