@@ -63,6 +63,9 @@ fn lines_of(
 ) -> Result<String, AllocError>
     ensures { IfOk result (λ text. string_bytes text ≡ spec.lines_of (workspace_text workspace.now).packages (words_text holds_on words.now) (is_built_in parts.now) (map spot_text unbuilt.now)) }
 {
+    if let [] = unbuilt {
+        return Ok(String::new(alloc));
+    }
     let scripts = LackingScripts::of_parts(alloc, workspace, words.host, parts)?;
     let list = with_scripts(alloc, &scripts, unbuilt)?;
     unbuilt_lines(alloc, workspace, words.selection.split, &list)
@@ -82,9 +85,6 @@ pub(crate) fn unbuilt_text_of(
     match format {
         Format::Text => {
             let unbuilt = those_in(alloc, parts, PartState::Unbuilt, spots)?;
-            if unbuilt.is_empty() {
-                return Ok(Vec::new(alloc));
-            }
             Ok(lines_of(alloc, workspace, words, parts, &unbuilt)?.into_bytes())
         }
         Format::Json => Ok(Vec::new(alloc)),
