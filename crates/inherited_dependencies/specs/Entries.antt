@@ -1,5 +1,5 @@
 -- The entries for dependencies in the tables of a manifest, and what an entry says.
-use Rattle.std.specs.Prelude.{ℕ, List, Bool, true, false, ◌||◌, not, Option, Some, None, nat_eq, option_and_then, codes, if◌then◌else◌}
+use Rattle.std.specs.Prelude.{ℕ, Bool, false, ◌||◌, not, Option, Some, None, nat_eq, option_and_then, codes, if◌then◌else◌}
 use Rattle.std.specs.List.{filter}
 use Rattle.std.specs.Option.{option_map_or}
 use Rattle.std.specs.Str.{bytes_eq}

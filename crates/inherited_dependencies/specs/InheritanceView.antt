@@ -1,5 +1,5 @@
 -- The value that an inheritance contains.
-use Rattle.std.specs.Prelude.{List, Option, map, option_map}
+use Rattle.std.specs.Prelude.{Option, map, option_map}
 use Rattle.std.specs.Borrow.{Bor}
 use Rattle.toml.specs.Data.{Data}
 use Rattle.toml.specs.View.{view}

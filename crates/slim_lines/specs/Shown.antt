@@ -1,5 +1,5 @@
 -- Edits by which a build is smaller, as they are shown: a line for each.
-use Rattle.std.specs.Prelude.{ℕ, List, [], ◌∷◌, Option, Some, None, flat_map, option_map, option_and_then, slice_get}
+use Rattle.std.specs.Prelude.{ℕ, List, [], ◌∷◌, Option, Some, flat_map, option_map, option_and_then, slice_get}
 use Rattle.std.specs.Option.{option_map_or}
 use Rattle.cargo_workspaces.specs.Workspaces.{DeclarationText, PackageText, Text}
 use Rattle.plan_slims.specs.Orders.{SlimText}
