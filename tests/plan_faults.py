@@ -113,9 +113,12 @@ def document_faults(document):
     yield 'a document that is not UTF-8', text + b'\xff', f"the document isn't UTF-8: make it by {METADATA}"
     yield 'a document without packages', changed(document, ['packages'], None), f'the document: packages: {lacks}'
     yield 'a package without a name', changed(document, ['packages', 0, 'name'], None), f'the document: packages[0].name: {lacks}'
-    yield 'a member that is no package', changed(document, ['workspace_members', 0], 'no'), 'the document: workspace_members: no package "no"'
+    yield 'a member that is no package', changed(document, ['workspace_members', 0], 'no'), 'the document: workspace_members: no package `no`'
+    yield 'an id that is repeated', changed(document, ['packages', 1, 'id'], document['packages'][0]['id']), 'the document: packages[1].id: repeated'
+    name = changed(document, ['packages', 0, 'features'], {'[x': []})
+    yield 'a feature that begins with a bracket', name, f'the document: package `{document["packages"][0]["id"]}`: feature `[x` begins with `[`; rename it'
     yield 'default members', changed(document, ['workspace_default_members'], None), f'the document: workspace_default_members: {lacks}'
-    yield 'a document made with --no-deps', (TOP / 'tests/documents/no-deps.json').read_bytes(), None
+    yield 'a document made with --no-deps', (TOP / 'tests/documents/no-deps.json').read_bytes(), 'the document: resolve: null; the document was made with --no-deps'
     spec = changed(document, ['packages', 0, 'dependencies', 0, 'target'], 'cfg(')
     yield 'a platform spec', spec, f'package {document["packages"][0]["id"]} names `cfg(`, which is no platform spec: write a triple or `cfg(..)`'
 
