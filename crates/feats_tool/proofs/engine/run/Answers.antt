@@ -7,7 +7,7 @@ use Rattle.feats_tool.proofs.engine.run.Goals as goal
 pub returns-clause-ok : goal.returns-clause-ok
 returns-clause-ok g c = record {
   text = c.deref-2.result.now;
-  is_answer = is_shown (inputs_text c.args.arguments.now c.args.files.now) (g.R.ByteInput.left c.args.reader.now) c.in_ok-bytes.bytes.items c.deref.result.now (answer_text c.in_ok-answer.answer) (string_texts c.in_ok-answer.warnings.items) c.deref-2.result.now c.write_answer-ended.result.is_negative
+  is_answer = is_shown (inputs_text c.args.arguments.now c.args.files.now) (g.R.ByteInput.left c.args.reader.now) c.in_ok-bytes.bytes.items c.deref.result.now (answer_text c.in_ok-answer.field-0.answer) (string_texts c.in_ok-answer.field-0.warnings.items) c.deref-2.result.now c.write_answer-ended.result.is_negative
       c.in_ok-bytes.ensures.bytes c.deref.ensures.value c.in_ok-answer.ensures.answer c.deref-2.ensures.value c.write_answer-ended.ensures.negative;
   written = c.write_answer-ended.ensures.written;
 }
