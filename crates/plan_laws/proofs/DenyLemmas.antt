@@ -1,6 +1,6 @@
 -- A deny that is kept where more is on.
 use Rattle.std.proofs.Common.{◌≡◌, ℕ, List, [], ◌∷◌, Bool, true, false, cond, ◌&&◌, ◌||◌, refl, ap, sym, subst, ◌∙◌, filter, flat_map, map}
-use Rattle.std.specs.Prelude.{nat_eq, slice_get, unwrap_or}
+use Rattle.std.specs.Prelude.{IsTrue, nat_eq, slice_get, unwrap_or}
 use Rattle.std.specs.List.{Any, list_any}
 use Rattle.std.specs.Str.{bytes_eq}
 use Rattle.std.proofs.lemmas.List.Folds.{Any-from_list_any, list_any_at}

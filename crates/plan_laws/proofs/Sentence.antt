@@ -30,7 +30,7 @@ said_off w words part packages off h a = a
 said_off w words part packages (not_planned message) h a = absurd (cc)
 
 module _ (w : WorkspaceText) (words : WordsText) (every : Text → Bool) (part : PartText) (text : Text) (t : IsWhyNotText format.Text w words every part text) where
-  said_by : Widening → SaidText
+  abbrev said_by : Widening → SaidText
   said_by v = said_of w.packages (widened every v words) (t.are_sections v).answer
 
   are_lines : text ≡ why_not_lines (title_of w.packages part) (message_in w words t.plan part) said_by
