@@ -4,8 +4,8 @@ Nothing is built or fetched. `--unit-graph` isn't stable, so RUSTC_BOOTSTRAP is 
 
 A unit graph has the units of a build: each compiles a target of a package, or compiles or runs a build script. A unit has a platform, or
 null for the host; without `--target` all have null. So the place of a unit is followed from the roots: a unit is built in the place of
-the one that needs it, but on the host if it is a procedural macro, or if a build script needs it. Where `--target` is given, the
-platforms must agree with these places.
+the one that needs it, but on the host if it is a procedural macro, or if a build script needs it. Where `--target` is given, a root without
+a platform is built on the host too, and the platforms must agree with these places.
 """
 import json
 import os
@@ -21,7 +21,7 @@ FIELDS = {
     (): ('packages', 'workspace_members', 'workspace_default_members', 'resolve'),
     ('packages',): ('id', 'name', 'version', 'source', 'features', 'dependencies', 'targets'),
     ('packages', 'dependencies'): ('name', 'rename', 'req', 'kind', 'target', 'optional', 'uses_default_features', 'features'),
-    ('packages', 'targets'): ('name', 'kind', 'test', 'doctest', 'required-features'),
+    ('packages', 'targets'): ('name', 'kind', 'crate_types', 'test', 'doctest', 'required-features'),
     ('resolve',): ('root', 'nodes'),
     ('resolve', 'nodes'): ('id', 'deps'),
     ('resolve', 'nodes', 'deps'): ('name', 'pkg', 'dep_kinds'),
@@ -111,31 +111,47 @@ def read_fields(value, path=()):
         return [read_fields(it, path) for it in value]
     if path not in FIELDS:
         return value
-    return {name: read_fields(value[name], (*path, name)) for name in FIELDS[path] if name in value}
+    return {name: read_fields(value[name], (*path, name)) for name in FIELDS[path] if name in value and is_recorded(name, value)}
+
+
+def is_recorded(name, value):
+    """Whether a field says something. Crate types do where a target of another kind is a procedural macro."""
+    return name != 'crate_types' or 'proc-macro' in value[name] and 'proc-macro' not in value['kind']
 
 
 def is_script(unit):
     return unit['target']['kind'] == ['custom-build'] and unit['mode'] != 'run-custom-build'
 
 
+def is_macro(unit):
+    return 'proc-macro' in unit['target']['crate_types']
+
+
 def place_of_need(unit, place, needed):
     """The place in which `needed` is built for `unit`, which is built in `place`."""
-    return 'host' if is_script(unit) or 'proc-macro' in needed['target']['kind'] else place
+    return 'host' if is_script(unit) or is_macro(needed) else place
 
 
-def place_of_root(unit):
-    return 'host' if 'proc-macro' in unit['target']['kind'] else unit['platform'] or 'target'
+def place_of_root(unit, targets):
+    return 'host' if is_macro(unit) or targets and not unit['platform'] else unit['platform'] or 'target'
+
+
+def is_of_links(unit, needed):
+    """Whether a run of a script needs that of another package, which has `links`. It is in the place of that package's library."""
+    return unit['mode'] == needed['mode'] == 'run-custom-build'
 
 
 def places_of(units, roots, targets):
     """Returns the set of (place, id, features) of a unit graph. A place is `host`, a triple, or `target` without `--target`."""
-    left = [(place_of_root(units[it]), it) for it in roots]
+    left = [(place_of_root(units[it], targets), it) for it in roots]
     seen = set(left)
     while left:
         place, number = left.pop()
         unit = units[number]
         for it in unit['dependencies']:
             needed = units[it['index']]
+            if is_of_links(unit, needed):
+                continue
             # a script is compiled with the features of the package where it is run
             assert not is_script(needed) or (needed['pkg_id'], needed['features']) == (unit['pkg_id'], unit['features'])
             node = (place_of_need(unit, place, needed), it['index'])

@@ -143,9 +143,9 @@ def plan_faults(cases):
         f"package {at}/ext/tested#0.1.0 isn't a member of the workspace, and its tests need its dependencies for development: leave --tests out"
     yield 'a package that is not on', others, ['-p', 'tested'], \
         f"package {at}/ext/tested#0.1.0 isn't built for the target: select a member that depends on it too"
-    yield 'a package that is missing', lacking, ['-F', 'b/g'], \
-        f'the document has no package for the optional dependency `leaf` of {at}/ext/b#0.1.0: make it by ' \
-        '`cargo metadata --format-version 1 --all-features --features WORDS` with the words of the selection'
+    made = 'make it by `cargo metadata --format-version 1 --all-features --features WORDS` with the words of the selection'
+    for case, word, name in ((lacking, 'b/g', 'leaf'), (cases['several-fit'], 'b/old', 'old')):
+        yield f'no package for {name}', case, ['-F', word], f'the document has no package for the optional dependency `{name}` of {at}/ext/b#0.1.0: {made}'
 
 
 # Manifests, each with the resolver that Cargo takes from it.

@@ -33,6 +33,10 @@ class Lacking(Refused):
 
 # The document, by docs/METADATA.md.
 
+def is_macro_target(target):
+    return 'proc-macro' in target['kind'] + target.get('crate_types', [])
+
+
 class Declaration(NamedTuple):
     name: str
     kind: str               # 'normal', 'build' or 'dev'
@@ -54,6 +58,9 @@ class Package(NamedTuple):
 
     def is_macro(self):
         return any('proc-macro' in it['kind'] for it in self.targets)
+
+    def has_macro(self):
+        return any(is_macro_target(it) for it in self.targets)
 
     def has_script(self):
         return any('custom-build' in it['kind'] for it in self.targets)
@@ -111,7 +118,7 @@ def lead_of(packages, package, uses, declared):
     if len(used) != 1:
         candidates = used or (fitting if declared['optional'] else [])
         used = [it for it in candidates if admits(declared['req'], packages[it['pkg']]['version'])]
-    return used[0]['pkg'] if used else None
+    return used[0]['pkg'] if len(used) == 1 else None
 
 
 def document_of(value):
@@ -389,7 +396,7 @@ class Plan:
     def on_starts(self):
         starts = self.starts_of([TARGET])
         if self.selection.is_split:
-            starts += [it for it in self.starts_of([HOST]) if self.packages[it[0][1]].is_macro()]
+            starts += [it for it in self.starts_of([HOST]) if self.packages[it[0][1]].has_macro()]
         return starts
 
     def features(self, side, id):
@@ -464,8 +471,7 @@ class Plan:
             for target in package.targets:
                 if not self.is_chosen(package, target):
                     continue
-                is_for_host = 'proc-macro' in target['kind']
-                for place in [HOST] if is_for_host else range(len(self.selection.platforms())):
+                for place in [HOST] if is_macro_target(target) else range(len(self.selection.platforms())):
                     self.check_on(place, id)
                     starts[place, id] = self.selection.is_test
                     if package.is_macro():

@@ -42,6 +42,8 @@ def weak(name, **how):
 
 
 MACRO_PROGRAM = Target('bin', 'one', lines=('proc-macro = true',))
+MACRO_TEST = Target('test', 'one', lines=('proc-macro = true',))
+MACRO_EXAMPLE = Target('example', 'one', lines=('crate-type = ["proc-macro"]',))
 ON_WINDOWS, ON_MAC = 'cfg(windows)', 'cfg(target_os = "macos")'
 
 WORKED = [
@@ -152,6 +154,29 @@ WORKED = [
         Row('--target windows --tests', 'host pm; target leaf x; target pm'),
         Row('--target windows', 'host pm'),
     ]),
+    Worked('macro-links', 'a script waits for that of a procedural macro with `links`, which is run for the host', [
+        member('a', Declared('ext/pm'), has_script=True), Package('ext/pm', 'pm', declared=[leaf('x')], library='proc-macro', has_script=True, has_links=True), LEAF,
+    ], [
+        Row(words, 'host leaf x; host pm; target a', resolver) for resolver in '12' for words in ('', '--target windows')
+    ]),
+    Worked('macro-example', 'an example that is a procedural macro is built for the host, and its package starts on both sides', [
+        member('a', leaf('x'), leaf('y', table=DEV), targets=[MACRO_EXAMPLE]), member('b', leaf(table=BUILD), has_script=True), member('c', Declared('a')), LEAF,
+    ], [
+        Row('-p a --tests', 'host a; host leaf x y; target a; target leaf x y'),
+        Row('-p a --target windows --tests', 'host a; host leaf x y; target a; target leaf x y'),
+        Row('-p a --target windows --target mac --tests', 'host a; host leaf x y; windows a; windows leaf x y; mac a; mac leaf x y'),
+        Row('-p a -p b --target windows', 'host leaf x; target a; target b; target leaf x'),
+        Row('-p b --target windows', 'host leaf; target b'),
+        Row('-p c --target windows --tests', 'target a; target c; target leaf x'),
+        Row('-p a --target windows --tests', 'host a; host leaf x y; target a; target leaf x y', '1'),
+        Row('-p a -p b --target windows', 'host leaf x y; target a; target b; target leaf x y', '1'),
+    ]),
+    Worked('macro-test', 'a test with `proc-macro = true` is planned as any other', [
+        member('a', leaf(), targets=[MACRO_TEST]), LEAF,
+    ], [
+        Row('--target windows --tests', 'target a; target leaf', cargo='host a; host leaf; target a; target leaf',
+            differs='the document doesn\'t say that the test is a procedural macro'),
+    ]),
     Worked('required-kinds', 'a required feature of a dependency counts if a declaration is for this build and a platform of it', [
         Package('a', 'a', declared=[leaf(table=DEV)], library=None, targets=[Target('bin', 'one', ('leaf/x',))]),
         Package('c', 'c', declared=[leaf(spec=ON_WINDOWS)], library=None, targets=[Target('bin', 'two', ('leaf/x',))]),
@@ -200,6 +225,17 @@ WORKED = [
         Row('--target linux -F b/g', 'target a; target b g leaf; target leaf x'),
         Row('--target linux -F b/leaf', 'target a; target b leaf; target leaf'),
         Row('--target linux -F b/w', 'target a; target b w'),
+    ]),
+    Worked('several-fit', 'an optional declaration that fits several packages leads nowhere, until the document says which', [
+        member('a', Declared('ext/b')), Package('ext/b', 'b', declared=[
+            Declared('vendor/old-2', requirement='2'), Declared('vendor/old-1', requirement='1', table=BUILD),
+            Declared('vendor/old-2', requirement='>=1', spec=ON_WINDOWS, is_optional=True),
+        ], has_script=True),
+        Package('vendor/old-1', 'old', '1.0.0'), Package('vendor/old-2', 'old', '2.0.0'),
+    ], [
+        Row('--target linux', 'host old 1.0.0; target a; target b; target old 2.0.0'),
+        Row('--target linux -F b/old', 'host old 1.0.0; target a; target b old; target old 2.0.0'),
+        Row('--target windows -F b/old', 'host old 1.0.0; target a; target b old; target old 1.0.0; target old 2.0.0'),
     ]),
     Worked('no-library', 'a required dependency without a library leads nowhere', [
         member('a', Declared('ext/tool'), leaf()), LEAF,

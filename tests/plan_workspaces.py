@@ -60,6 +60,7 @@ class Package:
     library: str = 'lib'
     library_lines: list = field(default_factory=list)
     has_script: bool = False
+    has_links: bool = False
     targets: list = field(default_factory=list)
     # false for a package of the registry that isn't there
     is_written: bool = True
@@ -106,6 +107,8 @@ def declaration_lines(package, packages):
 
 def manifest_lines(package, packages, resolver):
     yield from ('[package]', f'name = "{package.name}"', f'version = "{package.version}"', 'edition = "2021"')
+    if package.has_links:
+        yield f'links = "{package.name}"'
     if resolver and package.folder == '.':
         yield f'resolver = "{resolver}"'
     if package.library:

@@ -25,7 +25,13 @@ declaration_text d = record {
 }
 
 abbrev pub target_text : Target → TargetText
-target_text t = record { kinds = texts t.kinds.items; test = t.test; doctest = t.doctest; required_features = texts t.required_features.items }
+target_text t = record {
+  kinds = texts t.kinds.items;
+  crate_types = texts t.crate_types.items;
+  test = t.test;
+  doctest = t.doctest;
+  required_features = texts t.required_features.items;
+}
 
 abbrev pub package_text : Package → PackageText
 package_text p = record {

@@ -31,6 +31,7 @@ pub record DeclarationText : Type 0 where
 
 pub record TargetText : Type 0 where
   pub kinds : List Text
+  pub crate_types : List Text
   pub test : Bool
   pub doctest : Bool
   pub required_features : List Text
@@ -108,7 +109,15 @@ has_kind kind t = list_any (bytes_eq kind) t.kinds
 abbrev pub is_library : TargetText → Bool
 is_library t = list_any is_library_kind t.kinds
 
--- Whether the package is a procedural macro, and whether it has a build script.
+-- Whether the target is a procedural macro, by its kind or by its crate types: a library or an example.
+abbrev pub is_macro_target : TargetText → Bool
+is_macro_target t = has_kind (codes "proc-macro") t || list_any (bytes_eq (codes "proc-macro")) t.crate_types
+
+-- Whether a target of the package is a procedural macro.
+abbrev pub has_macro_target : PackageText → Bool
+has_macro_target p = list_any is_macro_target p.targets
+
+-- Whether the package is a procedural macro for those that depend on it, and whether it has a build script.
 abbrev pub is_proc_macro : PackageText → Bool
 is_proc_macro p = list_any (has_kind (codes "proc-macro")) p.targets
 

@@ -1,5 +1,8 @@
 //! The packages of a workspace. All texts are borrowed from the document.
-ghost use Rattle.std.specs.Prelude.{◌≡◌};
+ghost use Rattle.std.specs.Prelude.{◌≡◌, Some};
+ghost use Rattle.std.specs.List.{list_any};
+ghost use Rattle.std.specs.Str.{bytes_eq};
+ghost use Rattle.cargo_workspaces.specs.Views.{texts};
 ghost use Rattle.cargo_workspaces.specs.Workspaces as spec;
 
 /// The builds of a package that a declaration is for.
@@ -38,6 +41,8 @@ pub struct Declaration<'v> {
 pub struct Target<'v> {
     /// The words of its kind: `lib`, `proc-macro`, `bin`, `example`, `test`, `bench`, `custom-build` and others.
     pub kinds: Vec<&'v str>,
+    /// The crate types; an example may be of the type `proc-macro`. Empty if the document doesn't contain them.
+    pub crate_types: Vec<&'v str>,
     /// Whether its unit tests are built by default.
     pub test: bool,
     /// Whether its documentation tests are built by default.
@@ -76,6 +81,20 @@ impl Drop for Package<'_> {
     }
 }
 
+impl Declaration<'_> {
+    ghost use Rattle.cargo_workspaces.specs.Views.{declaration_text};
+
+    /// Returns whether the declaration leads to package `number`.
+    pub fn leads_to_package(&self, number: usize) -> bool
+        ensures { result ≡ spec.both_lead_to (Some number) (declaration_text self.now).leads_to }
+    {
+        match self.leads_to {
+            Some(to) => number == to,
+            None => false,
+        }
+    }
+}
+
 /// Returns whether targets of this kind are linked into the packages that depend on theirs.
 fn is_library_kind(kind: &str) -> bool
     ensures { result ≡ spec.is_library_kind kind.now }
@@ -86,6 +105,18 @@ fn is_library_kind(kind: &str) -> bool
     )
 }
 
+/// Returns whether `word` is one of `words`.
+fn is_among(words: &[&str], word: &str) -> bool
+    ensures { result ≡ list_any (bytes_eq word.now) (texts words.now) }
+{
+    for other in words {
+        if word == *other {
+            return true;
+        }
+    }
+    false
+}
+
 impl Target<'_> {
     ghost use Rattle.cargo_workspaces.specs.Views.{target_text};
 
@@ -93,12 +124,14 @@ impl Target<'_> {
     pub fn has_kind(&self, kind: &str) -> bool
         ensures { result ≡ spec.has_kind kind.now (target_text self.now) }
     {
-        for word in &self.kinds {
-            if kind == *word {
-                return true;
-            }
-        }
-        false
+        is_among(&self.kinds, kind)
+    }
+
+    /// Returns whether the target is a procedural macro: a library, or an example of that crate type.
+    pub fn is_proc_macro(&self) -> bool
+        ensures { result ≡ spec.is_macro_target (target_text self.now) }
+    {
+        self.has_kind("proc-macro") || is_among(&self.crate_types, "proc-macro")
     }
 
     /// Returns whether the target is a library, of which a procedural macro is one.
@@ -117,7 +150,19 @@ impl Target<'_> {
 impl Package<'_> {
     ghost use Rattle.cargo_workspaces.specs.Views.{package_text};
 
-    /// Returns whether the package is a procedural macro.
+    /// Returns whether a target of the package is a procedural macro.
+    pub fn has_proc_macro(&self) -> bool
+        ensures { result ≡ spec.has_macro_target (package_text self.now) }
+    {
+        for target in &self.targets {
+            if target.is_proc_macro() {
+                return true;
+            }
+        }
+        false
+    }
+
+    /// Returns whether the package is a procedural macro for those that depend on it.
     pub fn is_proc_macro(&self) -> bool
         ensures { result ≡ spec.is_proc_macro (package_text self.now) }
     {

@@ -1,7 +1,6 @@
 //! The declarations of a member that gets lines.
-ghost use Rattle.std.specs.Prelude.{◌≡◌, ◌++◌, ◌∷◌, [], Some, IfOk, OnOk, map, if◌then◌else◌};
+ghost use Rattle.std.specs.Prelude.{◌≡◌, ◌++◌, ◌∷◌, [], IfOk, OnOk, map, if◌then◌else◌};
 ghost use Rattle.cargo_workspaces.specs.Views.{declaration_text};
-ghost use Rattle.cargo_workspaces.specs.Workspaces.{both_lead_to};
 ghost use Rattle.plan_duplicates.specs.Joined as spec;
 ghost use Rattle.plan_duplicates.specs.inner.JoinViews.{join_text};
 
@@ -10,22 +9,12 @@ use cargo_workspaces::Declaration;
 use std::alloc::{AllocError, Global};
 use workspace_edits::copies_of_declarations;
 
-/// Returns whether `declaration` leads to package `package`.
-fn leads_to(declaration: &Declaration<'_>, package: usize) -> bool
-    ensures { result ≡ both_lead_to (Some «package») (declaration_text declaration.now).leads_to }
-{
-    match declaration.leads_to {
-        Some(number) => package == number,
-        None => false,
-    }
-}
-
 /// Returns the name by which the first of `declarations` that leads to package `package` calls it; without one, `name`.
 fn name_among<'v>(package: usize, name: &'v str, declarations: &[Declaration<'v>]) -> &'v str
     ensures { result.now ≡ spec.name_among «package» name.now (map declaration_text declarations.now) }
 {
     for declaration in declarations {
-        if leads_to(declaration, package) {
+        if declaration.leads_to_package(package) {
             return declaration.name;
         }
     }

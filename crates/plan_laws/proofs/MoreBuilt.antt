@@ -1,5 +1,5 @@
 -- The entries and the starts of step `built`, for more that is kept and on.
-use Rattle.std.proofs.Common.{◌≡◌, ⊎_elim, ℕ, suc, ◌+◌, ◌*◌, ◌<◌, List, [], ◌∷◌, ◌++◌, Bool, true, false, not, Option, None, Some, length, refl, ap, sym, ◌∙◌, subst, arith, if◌then◌else◌, codes}
+use Rattle.std.proofs.Common.{◌≡◌, ⊎_elim, ℕ, suc, ◌+◌, ◌*◌, ◌<◌, List, [], ◌∷◌, ◌++◌, Bool, true, false, not, Option, None, Some, length, refl, ap, sym, ◌∙◌, subst, arith, if◌then◌else◌}
 use Rattle.std.specs.Prelude.{◌%◌, ◌==◌, ◌&&◌, ◌||◌, Contains, slice_get}
 use Rattle.std.specs.List.{list_all, list_any}
 use Rattle.std.specs.Option.{is_some, option_map_or}
@@ -9,7 +9,7 @@ use Rattle.std.proofs.lemmas.Nat.{mod-mul-add}
 use Rattle.guppy_packages.specs.Items.{Item, feature_item, optional_item, slash_item, item_of}
 use Rattle.feature_labels.specs.Names.{LabelName}
 use Rattle.feature_labels.specs.Names.LabelName.{named}
-use Rattle.cargo_workspaces.specs.Workspaces.{DeclarationText, FeatureText, IsPackage, IsWorkspace, PackageText, TargetText, Text, WorkspaceText, both_lead_to, has_kind, has_script, is_proc_macro}
+use Rattle.cargo_workspaces.specs.Workspaces.{DeclarationText, FeatureText, IsPackage, IsWorkspace, PackageText, TargetText, Text, WorkspaceText, both_lead_to, has_script, is_macro_target, is_proc_macro}
 use Rattle.feature_core.proofs.AddsLemmas.{Contains-none}
 use Rattle.feature_core.proofs.Places.{get_cases, get_left, get_right}
 use Rattle.plan_rows.specs.Commands.{is_started}
@@ -231,10 +231,10 @@ module _ (w : WorkspaceText) (is : IsWorkspace w) (s : SettingsText) (commands :
       (all_weaker (λ need. met rules p x need (item_of need)) (λ need. met others p x need (item_of need)) t.required_features (λ need. met_more p x need (item_of need)) parts.1)
 
   builds_more : (macros : Bool) (p : ℕ) (x : PackageText) → builds rules macros p x ≡ true → builds others macros p x ≡ true
-  builds_more true p x h = any_weaker (λ t. has_kind (codes "proc-macro") t && is_built rules p x t) (λ t. has_kind (codes "proc-macro") t && is_built others p x t) x.targets
-      (λ t i. let q = both_true (has_kind (codes "proc-macro") t) (is_built rules p x t) i in two_true (has_kind (codes "proc-macro") t) (is_built others p x t) q.0 (target_more p x t q.1)) h
-  builds_more false p x h = any_weaker (λ t. not (has_kind (codes "proc-macro") t) && is_built rules p x t) (λ t. not (has_kind (codes "proc-macro") t) && is_built others p x t) x.targets
-      (λ t i. let q = both_true (not (has_kind (codes "proc-macro") t)) (is_built rules p x t) i in two_true (not (has_kind (codes "proc-macro") t)) (is_built others p x t) q.0 (target_more p x t q.1)) h
+  builds_more true p x h = any_weaker (λ t. is_macro_target t && is_built rules p x t) (λ t. is_macro_target t && is_built others p x t) x.targets
+      (λ t i. let q = both_true (is_macro_target t) (is_built rules p x t) i in two_true (is_macro_target t) (is_built others p x t) q.0 (target_more p x t q.1)) h
+  builds_more false p x h = any_weaker (λ t. not (is_macro_target t) && is_built rules p x t) (λ t. not (is_macro_target t) && is_built others p x t) x.targets
+      (λ t i. let q = both_true (not (is_macro_target t)) (is_built rules p x t) i in two_true (not (is_macro_target t)) (is_built others p x t) q.0 (target_more p x t q.1)) h
 
   module _ (selected larger : List ℕ) (among : (p : ℕ) → Contains selected p → Contains larger p) where
     among_more : (p : ℕ) → is_among selected p ≡ true → is_among larger p ≡ true

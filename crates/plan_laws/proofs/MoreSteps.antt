@@ -12,7 +12,7 @@ use Rattle.plan_rows.specs.Tables.{Entry, rows_of}
 use Rattle.plan_rows.specs.declared.side.Side.{Side}
 use Rattle.cargo_plans.specs.plan_starts.Lists.{joined_from}
 use Rattle.cargo_plans.specs.plan_starts.PackageVisits.{PairVisit, first_entry, is_kept, is_on, reaches_at}
-use Rattle.cargo_plans.specs.plan_starts.Targets.{is_macro}
+use Rattle.cargo_plans.specs.plan_starts.Targets.{has_macro}
 use Rattle.cargo_plans.specs.plan_units.Commands.{command_label, command_places, on_starts, resolved_starts}
 use Rattle.step_visits.specs.Visits.{IsVisitOf, Visit, reaches}
 use Rattle.cargo_plans.specs.plan_steps.Plans.{IsOn, IsResolved}
@@ -90,10 +90,10 @@ module _ (w : WorkspaceText) (is : IsWorkspace w) (s t : SettingsText) (grow : S
       (subst (λ split. AreAmong (macros s.split s.commands) (macros split t.commands)) grow.split (go s.split))
     where
       macros : Bool → List (Option FeatureText) → List (ℕ × LabelName)
-      macros split cs = if split then command_places (is_macro w.packages) (length w.packages) cs else []
+      macros split cs = if split then command_places (has_macro w.packages) (length w.packages) cs else []
 
       go : (split : Bool) → AreAmong (macros split s.commands) (macros split t.commands)
-      go true = commands_among s.commands t.commands grow.commands (is_macro w.packages) (length w.packages)
+      go true = commands_among s.commands t.commands grow.commands (has_macro w.packages) (length w.packages)
       go false = λ x c. c
 
   module _ (k j : PairVisit) (resolved : IsResolved w s k) (others : IsResolved w t j) where

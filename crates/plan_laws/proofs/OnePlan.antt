@@ -1,5 +1,5 @@
 -- A workspace and a selection have one plan: all that a step takes from a visit is which labels it reaches.
-use Rattle.std.proofs.Common.{◌≡◌, ℕ, zero, suc, ◌+◌, List, [], ◌∷◌, ◌++◌, Bool, true, false, Option, Result, Ok, length, map, refl, ap, ap₂, sym, ◌∙◌, subst, if◌then◌else◌, codes}
+use Rattle.std.proofs.Common.{◌≡◌, ℕ, zero, suc, ◌+◌, List, [], ◌∷◌, ◌++◌, Bool, true, false, Option, Result, Ok, length, map, refl, ap, ap₂, sym, ◌∙◌, subst, if◌then◌else◌}
 use Rattle.std.specs.Prelude.{◌&&◌, ◌||◌, filter, nat_lt, not}
 use Rattle.std.specs.List.{list_all, list_any}
 use Rattle.std.specs.Option.{is_some, option_map_or}
@@ -8,7 +8,7 @@ use Rattle.guppy_packages.specs.Items.{slash_item, item_of}
 use Rattle.guppy_packages.specs.Rows.{RowText}
 use Rattle.feature_labels.specs.Names.{LabelName}
 use Rattle.feature_labels.specs.Names.LabelName.{base, named, optional}
-use Rattle.cargo_workspaces.specs.Workspaces.{DeclarationText, PackageText, TargetText, Text, WorkspaceText, both_lead_to, has_kind}
+use Rattle.cargo_workspaces.specs.Workspaces.{DeclarationText, PackageText, TargetText, Text, WorkspaceText, both_lead_to, is_macro_target}
 use Rattle.plan_rows.specs.Commands.{is_started}
 use Rattle.plan_rows.specs.Steps.{SettingsText, built_entries, is_development, is_host, lands, on_entries, resolved_entries, side_of}
 use Rattle.plan_rows.specs.Tables.{each_from, flag_at, rows_of}
@@ -77,10 +77,10 @@ module _ (s : SettingsText) (packages : List PackageText) (selected : List ℕ) 
   is_built_by p x t = is_chosen s.test t && list_all (met p x) t.required_features
 
   abbrev macros_by : List Bool
-  macros_by = each_from (λ p x. is_among selected p && list_any (λ t. has_kind (codes "proc-macro") t && is_built_by p x t) x.targets) 0 packages
+  macros_by = each_from (λ p x. is_among selected p && list_any (λ t. is_macro_target t && is_built_by p x t) x.targets) 0 packages
 
   abbrev others_by : List Bool
-  others_by = each_from (λ p x. is_among selected p && list_any (λ t. not (has_kind (codes "proc-macro") t) && is_built_by p x t) x.targets) 0 packages
+  others_by = each_from (λ p x. is_among selected p && list_any (λ t. not (is_macro_target t) && is_built_by p x t) x.targets) 0 packages
 
   abbrev starts_from : Starts
   starts_from = record { macros = macros_by; others = others_by; hosts = each_from (starts_on_host macros_by others_by) 0 packages }

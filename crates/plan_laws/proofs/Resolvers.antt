@@ -1,17 +1,18 @@
 -- Resolvers 1 and 2, where nothing is for the host.
-use Rattle.std.proofs.Common.{◌≡◌, ℕ, zero, suc, ◌+◌, List, [], ◌∷◌, ◌++◌, Bool, true, false, Option, length, refl, ap, ap₂, if◌then◌else◌}
+use Rattle.std.proofs.Common.{◌≡◌, ℕ, zero, suc, ◌+◌, List, [], ◌∷◌, ◌++◌, Bool, true, false, Option, codes, length, refl, ap, ap₂, if◌then◌else◌}
 use Rattle.std.specs.Prelude.{◌&&◌, ◌||◌, not, Contains, option_and_then, option_map}
 use Rattle.std.specs.List.{cons_option, filter_map, list_any}
 use Rattle.std.specs.Option.{is_some}
+use Rattle.std.specs.Str.{bytes_eq}
 use Rattle.feature_core.proofs.AddsLemmas.{Contains-first, Contains-later}
-use Rattle.cargo_workspaces.specs.Workspaces.{DeclarationText, PackageText, Text, WorkspaceText, is_proc_macro}
+use Rattle.cargo_workspaces.specs.Workspaces.{DeclarationText, PackageText, TargetText, Text, WorkspaceText, has_kind, has_macro_target, is_macro_target, is_proc_macro}
 use Rattle.plan_rows.specs.Commands.{command_of, is_started}
 use Rattle.plan_rows.specs.Steps.{SettingsText, admits, admitted, command_list, dependency_as, is_build, is_development, lands, lead_by, macros_of, number_if, on_entry, on_lead, on_side, side_base}
 use Rattle.plan_rows.specs.Tables.{Dependency, Entry, each_from, flag_at}
 use Rattle.plan_rows.specs.declared.side.Side.{Side}
 use Rattle.plan_rows.specs.declared.side.Side.TheVariants.{Target, Host}
 use Rattle.cargo_plans.specs.plan_starts.Lists.{joined_from}
-use Rattle.cargo_plans.specs.plan_starts.Targets.{is_macro}
+use Rattle.cargo_plans.specs.plan_starts.Targets.{has_macro}
 use Rattle.cargo_plans.specs.plan_units.Commands.{command_label, command_places, on_starts}
 use Rattle.plan_laws.specs.Laws.{AllCountAlike, IsDeclaredAlike, ResolversAgree, with_split}
 
@@ -49,13 +50,24 @@ stays true macro a b = absurd (cc)
 stays false true a b = absurd (cc)
 stays false false a b = refl
 
--- no package is a procedural macro
+neither : (a b : Bool) → (a || b) ≡ false → (a ≡ false) × (b ≡ false)
+neither true b h = absurd (cc)
+neither false b h = (refl, h)
+
+-- no target is a procedural macro
+no_library : (ts : List TargetText) → list_any is_macro_target ts ≡ false → list_any (has_kind (codes "proc-macro")) ts ≡ false
+no_library [] h = refl
+no_library (t ∷ ts) h =
+    let parts = neither (is_macro_target t) (list_any is_macro_target ts) h in
+    let kind = neither (has_kind (codes "proc-macro") t) (list_any (bytes_eq (codes "proc-macro")) t.crate_types) parts.0 in
+    rw (kind.0, no_library ts parts.1) refl
+
 no_flag : (xs : List PackageText) → ((x : PackageText) → Contains xs x → is_proc_macro x ≡ false) → (q : ℕ) → flag_at (macros_of xs) q ≡ false
 no_flag [] h q = refl
 no_flag (x ∷ xs) h zero = h x (Contains-first x xs)
 no_flag (x ∷ xs) h (suc q) = no_flag xs (λ y c. h y (Contains-later x xs y c)) q
 
-no_macro : (xs : List PackageText) → ((x : PackageText) → Contains xs x → is_proc_macro x ≡ false) → (q : ℕ) → is_macro xs q ≡ false
+no_macro : (xs : List PackageText) → ((x : PackageText) → Contains xs x → has_macro_target x ≡ false) → (q : ℕ) → has_macro xs q ≡ false
 no_macro [] h q = refl
 no_macro (x ∷ xs) h zero = h x (Contains-first x xs)
 no_macro (x ∷ xs) h (suc q) = no_macro xs (λ y c. h y (Contains-later x xs y c)) q
@@ -68,7 +80,7 @@ module _ (w : WorkspaceText) (s : SettingsText) (alike : AllCountAlike w s) wher
 
     same_lead : (p : ℕ) (d : DeclarationText) → IsDeclaredAlike s d → (q : ℕ) → on_lead (macros_of w.packages) (with_split s true) kept Target p d q ≡ on_lead (macros_of w.packages) (with_split s false) kept Target p d q
     same_lead p d is q =
-        let side : lands true d (flag_at (macros_of w.packages) q) Target ≡ Target = stays (is_build d.kind) (flag_at (macros_of w.packages) q) is.0 (no_flag w.packages (λ x c. (alike x c).0) q) in
+        let side : lands true d (flag_at (macros_of w.packages) q) Target ≡ Target = stays (is_build d.kind) (flag_at (macros_of w.packages) q) is.0 (no_flag w.packages (λ x c. no_library x.targets (alike x c).0) q) in
         ap₂ (λ test to. number_if test (side_base (length (macros_of w.packages)) to + q)) (same_admitted p d is) side
 
     same_entry : (p : ℕ) (x : PackageText) → Contains w.packages x → on_entry (macros_of w.packages) (with_split s true) kept Target p x ≡ on_entry (macros_of w.packages) (with_split s false) kept Target p x
@@ -85,7 +97,7 @@ module _ (w : WorkspaceText) (s : SettingsText) (alike : AllCountAlike w s) wher
   same_starts : on_starts w (with_split s true) ≡ on_starts w (with_split s false)
   same_starts =
       let first = command_places (λ p. true) 0 s.commands in
-      let none : command_places (is_macro w.packages) (length w.packages) s.commands ≡ [] = joined_none (λ p command. if is_some command && is_macro w.packages p then (length w.packages + p, command_label) ∷ [] else []) 0 s.commands (λ p command. none_if (is_some command) (is_macro w.packages p) (length w.packages + p, command_label) (no_macro w.packages (λ x c. (alike x c).0) p)) in
+      let none : command_places (has_macro w.packages) (length w.packages) s.commands ≡ [] = joined_none (λ p command. if is_some command && has_macro w.packages p then (length w.packages + p, command_label) ∷ [] else []) 0 s.commands (λ p command. none_if (is_some command) (has_macro w.packages p) (length w.packages + p, command_label) (no_macro w.packages (λ x c. (alike x c).0) p)) in
       ap (λ z. first ++ z) none
 
 pub resolvers_agree : ResolversAgree

@@ -5,7 +5,7 @@ use Rattle.guppy_packages.specs.Rows.{RowText}
 use Rattle.guppy_packages.specs.Tables.{Tables}
 use Rattle.feature_labels.specs.Names.{LabelName}
 use Rattle.step_visits.specs.Visits.{IsReached, IsVisitOf, Visit, reaches}
-use Rattle.cargo_workspaces.specs.Workspaces.{DeclarationText, IsWorkspace, PackageText, Text, WorkspaceText, is_proc_macro}
+use Rattle.cargo_workspaces.specs.Workspaces.{DeclarationText, IsWorkspace, PackageText, Text, WorkspaceText, has_macro_target}
 use Rattle.plan_rows.specs.Steps.{SettingsText, admits, is_build, is_development, on_side, resolved_entries}
 use Rattle.plan_rows.specs.declared.side.Side.TheVariants.{Target}
 use Rattle.cargo_plans.specs.plan_units.Commands.{on_starts}
@@ -67,9 +67,9 @@ abbrev pub IsDeclaredAlike : SettingsText → DeclarationText → Type 0
 IsDeclaredAlike s d =
     IsFalse (is_build d.kind) × (IsTrue (is_development d.kind) → IsTrue s.test) × IsTrue (list_any (λ holds. admits holds d.platform) s.targets)
 
--- No package is a procedural macro, and each declaration counts alike with each resolver. So nothing is for the host alone.
+-- No target of a package is a procedural macro, and each declaration counts alike with each resolver. So nothing is for the host alone.
 abbrev pub AllCountAlike : WorkspaceText → SettingsText → Type 0
-AllCountAlike w s = (x : PackageText) → Contains w.packages x → IsFalse (is_proc_macro x) × ((d : DeclarationText) → Contains x.declarations d → IsDeclaredAlike s d)
+AllCountAlike w s = (x : PackageText) → Contains w.packages x → IsFalse (has_macro_target x) × ((d : DeclarationText) → Contains x.declarations d → IsDeclaredAlike s d)
 
 -- RESOLVERS 1 and 2 resolve alike, and then have the same features to turn on for the targets, from the same starts.
 abbrev pub ResolversAgree : Type 0

@@ -1,3 +1,4 @@
 pub mod Lists
 pub mod StartLemmas
 pub mod VisitLemmas
+pub mod Counted

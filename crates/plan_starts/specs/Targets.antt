@@ -5,7 +5,7 @@ use Rattle.std.specs.Option.{is_some, option_map_or}
 use Rattle.std.specs.Str.{bytes_eq}
 use Rattle.step_visits.specs.guppy_packages.Items.{slash_item, item_of}
 use Rattle.step_visits.specs.feature_labels.Names.LabelName.{named}
-use Rattle.cargo_workspaces.specs.Workspaces.{Text, DeclarationText, TargetText, PackageText, both_lead_to, has_kind, is_library, is_proc_macro}
+use Rattle.cargo_workspaces.specs.Workspaces.{Text, DeclarationText, TargetText, PackageText, both_lead_to, has_kind, has_macro_target, is_library, is_macro_target, is_proc_macro}
 use Rattle.plan_rows.specs.Commands.{is_started}
 use Rattle.plan_rows.specs.Steps.{SettingsText, admits, is_development, lands}
 use Rattle.plan_rows.specs.declared.side.Side.TheVariants.{Target}
@@ -24,9 +24,13 @@ is_chosen test t =
     not (has_kind (codes "custom-build") t)
     && (if test then t.test || t.doctest || has_kind (codes "example") t else is_library t || has_kind (codes "bin") t)
 
--- Whether package `q` is a procedural macro.
+-- Whether package `q` is a procedural macro for those that depend on it.
 abbrev pub is_macro : List PackageText → ℕ → Bool
 is_macro packages q = option_map_or is_proc_macro (slice_get packages q) false
+
+-- Whether a target of package `q` is a procedural macro.
+abbrev pub has_macro : List PackageText → ℕ → Bool
+has_macro packages q = option_map_or has_macro_target (slice_get packages q) false
 
 -- Whether version resolving follows a declaration of package `p`: it leads to a package, is required or kept, and for development only if
 -- the package is started.
@@ -67,5 +71,5 @@ is_built r p x t = is_chosen r.settings.test t && list_all (is_met r p x) t.requ
 
 -- Whether a target is built that is a procedural macro, or one that isn't.
 abbrev pub builds : TargetRules → Bool → ℕ → PackageText → Bool
-builds r true p x = list_any (λ t. has_kind (codes "proc-macro") t && is_built r p x t) x.targets
-builds r false p x = list_any (λ t. not (has_kind (codes "proc-macro") t) && is_built r p x t) x.targets
+builds r true p x = list_any (λ t. is_macro_target t && is_built r p x t) x.targets
+builds r false p x = list_any (λ t. not (is_macro_target t) && is_built r p x t) x.targets

@@ -13,5 +13,5 @@ pub use package_visit::PackageVisit;
 pub use plan_rows::Side;
 pub use starts::{Starts, first_missing, starts_of};
 pub use step_visits::{FeatureLabel, NamedFeatureDep, PackageGraph, Visited, visit};
-pub use targets::{TargetRules, is_macro_at};
+pub use targets::{TargetRules, has_macro_at};
 pub use tests_of::first_without_tests;

@@ -44,7 +44,7 @@ fn started<P: Platform>(
     let packages = rules.packages;
     let mut flags = Vec::with_capacity(alloc, packages.len())?;
     for (ix, package) in packages.iter().enumerate() {
-        flags.push(selected.contains(ix) && builds(rules, macros, ix, package))?;
+        flags.push(selected.contains(ix) && builds(alloc, rules, macros, ix, package)?)?;
     }
     Ok(flags)
 }

@@ -1,18 +1,23 @@
 //! The targets of a package that a command line chooses.
-ghost use Rattle.std.specs.Prelude.{◌≡◌, ◌&&◌, not, codes, map, option_map};
+ghost use Rattle.std.specs.Prelude.{◌≡◌, ◌&&◌, ◌||◌, ℕ, None, Some, IfOk, OnOk, false, if◌then◌else◌, not, map, option_map};
+ghost use Rattle.std.specs.BTreeSet.{contains};
 ghost use Rattle.std.specs.List.{list_all, list_any};
+ghost use Rattle.std.specs.Option.{option_map_or};
+ghost use Rattle.std.specs.Ordering.{nat_cmp};
 ghost use Rattle.cargo_workspaces.specs.Views.{declaration_text, package_text, target_text, texts};
-ghost use Rattle.cargo_workspaces.specs.Workspaces.{both_lead_to, has_kind};
+ghost use Rattle.cargo_workspaces.specs.Workspaces.{both_lead_to, is_macro_target};
 ghost use Rattle.plan_rows.specs.Commands.{command_texts, is_started};
 ghost use Rattle.plan_rows.specs.SettingsView.{settings_text};
 ghost use Rattle.plan_rows.specs.Steps as steps;
 ghost use Rattle.plan_starts.specs.Targets as spec;
-ghost use Rattle.plan_starts.specs.Targets.{is_macro};
+ghost use Rattle.plan_starts.specs.Targets.{has_macro, is_macro};
 ghost use Rattle.plan_starts.specs.TargetViews.{rules_text};
 
 use crate::package_visit::PackageVisit;
 use cargo_workspaces::{Declaration, Kind, Package, Target};
 use plan_rows::{Kept, Platform, Settings, Side};
+use std::alloc::{AllocError, Global};
+use std::collections::BTreeSet;
 use step_visits::NamedFeatureDep;
 
 /// By what targets are chosen.
@@ -52,12 +57,22 @@ fn lands(split: bool, declaration: &Declaration<'_>, is_macro: bool) -> Side
     }
 }
 
-/// Returns whether package `ix` is a procedural macro.
-pub fn is_macro_at(packages: &[Package<'_>], ix: usize) -> bool
+/// Returns whether package `ix` is a procedural macro for those that depend on it.
+fn is_macro_at(packages: &[Package<'_>], ix: usize) -> bool
     ensures { result ≡ is_macro (map package_text packages.now) ix }
 {
     match packages.get(ix) {
         Some(package) => package.is_proc_macro(),
+        None => false,
+    }
+}
+
+/// Returns whether a target of package `ix` is a procedural macro.
+pub fn has_macro_at(packages: &[Package<'_>], ix: usize) -> bool
+    ensures { result ≡ has_macro (map package_text packages.now) ix }
+{
+    match packages.get(ix) {
+        Some(package) => package.has_proc_macro(),
         None => false,
     }
 }
@@ -143,30 +158,75 @@ fn is_of<P: Platform>(
     declaration.name == name && is_followed(rules, ix, declaration)
 }
 
-/// Returns whether both are the same package; false if one is `None`.
-fn both_lead_to(one: Option<usize>, other: Option<usize>) -> bool
-    ensures { result ≡ both_lead_to one other }
+/// Returns the package that `declaration` of package `ix` leads to, if it has the name `name`, is followed and counts in the build.
+fn counted_lead<P: Platform>(
+    rules: &TargetRules<'_, '_, '_, '_, P>,
+    ix: usize,
+    name: &str,
+    declaration: &Declaration<'_>,
+) -> Option<usize>
+    ensures { result ≡ (if spec.is_of (rules_text P.holds rules.now) ix name.now (declaration_text declaration.now) && spec.counts (settings_text P.holds rules.now.settings.now) (declaration_text declaration.now) then (declaration_text declaration.now).leads_to else None) }
 {
-    match (one, other) {
-        (Some(one), Some(other)) => one == other,
-        _ => false,
+    if is_of(rules, ix, name, declaration) && counts(rules.settings, declaration) {
+        declaration.leads_to
+    } else {
+        None
     }
 }
 
-/// Returns whether a declaration of package `ix` with the name `name` is followed, counts in the build and leads to package `to`.
-fn any_counts<P: Platform>(
+/// Inserts the package `lead` into `packages` if there is one. The only error is out of memory.
+fn note(packages: &mut BTreeSet<usize>, lead: Option<usize>) -> Result<(), AllocError>
+    ensures { OnOk result ((q : ℕ) → contains nat_cmp packages.new q ≡ (both_lead_to lead (Some q) || contains nat_cmp packages.old q)) }
+{
+    if let Some(number) = lead {
+        let _is_new = packages.insert(number)?;
+    }
+    Ok(())
+}
+
+/// Returns the packages that declarations of package `ix` with the name `name` lead to which are followed and count in the build. The
+/// only error is out of memory.
+fn counted_packages<P: Platform>(
+    alloc: Global,
     rules: &TargetRules<'_, '_, '_, '_, P>,
     ix: usize,
     name: &str,
     declarations: &[Declaration<'_>],
-    to: Option<usize>,
+) -> Result<BTreeSet<usize>, AllocError>
+    ensures { IfOk result (λ packages. (q : ℕ) → contains nat_cmp packages q ≡ spec.counts_for (rules_text P.holds rules.now) ix name.now (map declaration_text declarations.now) (Some q)) }
+{
+    let mut packages = BTreeSet::new(alloc);
+    for declaration in declarations {
+        note(&mut packages, counted_lead(rules, ix, name, declaration))?;
+    }
+    Ok(packages)
+}
+
+/// Returns whether `lead` is one of `packages`; false if there is none.
+fn is_counted(packages: &BTreeSet<usize>, lead: Option<usize>) -> bool
+    ensures { result ≡ option_map_or (contains nat_cmp packages.now) lead false }
+{
+    match lead {
+        Some(number) => packages.contains(&number),
+        None => false,
+    }
+}
+
+/// Returns whether a declaration of package `ix` with the name `name` is followed, and leads to one of `packages` with the feature on.
+fn any_leads_among<P: Platform>(
+    rules: &TargetRules<'_, '_, '_, '_, P>,
+    ix: usize,
+    name: &str,
+    feature: &str,
+    declarations: &[Declaration<'_>],
+    packages: &BTreeSet<usize>,
 ) -> bool
-    ensures { result ≡ spec.counts_for (rules_text P.holds rules.now) ix name.now (map declaration_text declarations.now) to }
+    ensures { result ≡ list_any (λ d. spec.is_of (rules_text P.holds rules.now) ix name.now d && spec.leads_on (rules_text P.holds rules.now) feature.now d && option_map_or (contains nat_cmp packages.now) d.leads_to false) (map declaration_text declarations.now) }
 {
     for declaration in declarations {
         if is_of(rules, ix, name, declaration)
-            && counts(rules.settings, declaration)
-            && both_lead_to(to, declaration.leads_to)
+            && leads_on(rules, feature, declaration)
+            && is_counted(packages, declaration.leads_to)
         {
             return true;
         }
@@ -175,121 +235,126 @@ fn any_counts<P: Platform>(
 }
 
 /// Returns whether a declaration of package `ix` with the name `name` is followed, and leads to a package with the feature on, to which
-/// a declaration with the name that counts in the build leads too.
+/// a declaration with the name that counts in the build leads too. The only error is out of memory.
 fn any_leads_on<P: Platform>(
+    alloc: Global,
     rules: &TargetRules<'_, '_, '_, '_, P>,
     ix: usize,
     name: &str,
     feature: &str,
     declarations: &[Declaration<'_>],
-) -> bool
-    ensures { result ≡ list_any (λ d. spec.is_of (rules_text P.holds rules.now) ix name.now d && spec.leads_on (rules_text P.holds rules.now) feature.now d && spec.counts_for (rules_text P.holds rules.now) ix name.now (map declaration_text declarations.now) d.leads_to) (map declaration_text declarations.now) }
+) -> Result<bool, AllocError>
+    ensures { IfOk result (λ b. b ≡ list_any (λ d. spec.is_of (rules_text P.holds rules.now) ix name.now d && spec.leads_on (rules_text P.holds rules.now) feature.now d && spec.counts_for (rules_text P.holds rules.now) ix name.now (map declaration_text declarations.now) d.leads_to) (map declaration_text declarations.now)) }
 {
-    for declaration in declarations {
-        if is_of(rules, ix, name, declaration)
-            && leads_on(rules, feature, declaration)
-            && any_counts(rules, ix, name, declarations, declaration.leads_to)
-        {
-            return true;
-        }
-    }
-    false
+    let packages = counted_packages(alloc, rules, ix, name, declarations)?;
+    Ok(any_leads_among(rules, ix, name, feature, declarations, &packages))
 }
 
-/// Returns whether the feature `need`, which a target of package `ix` requires, is on.
+/// Returns whether the feature `need`, which a target of package `ix` requires, is on. The only error is out of memory.
 fn is_met<P: Platform>(
+    alloc: Global,
     rules: &TargetRules<'_, '_, '_, '_, P>,
     ix: usize,
     package: &Package<'_>,
     need: &str,
-) -> bool
-    ensures { result ≡ spec.is_met (rules_text P.holds rules.now) ix (package_text «package».now) need.now }
+) -> Result<bool, AllocError>
+    ensures { IfOk result (λ b. b ≡ spec.is_met (rules_text P.holds rules.now) ix (package_text «package».now) need.now) }
 {
     match NamedFeatureDep::from_cargo_string(need) {
         NamedFeatureDep::DependencyNamedFeature {
             dep_name,
             feature,
             ..
-        } => { any_leads_on(rules, ix, dep_name, feature, &package.declarations) }
+        } => Ok(any_leads_on(alloc, rules, ix, dep_name, feature, &package.declarations)?),
         NamedFeatureDep::NamedFeature(_) | NamedFeatureDep::OptionalDependency(_) => {
-            rules.on.has_feature(Side::Target, ix, need)
+            Ok(rules.on.has_feature(Side::Target, ix, need))
         }
     }
 }
 
-/// Returns whether all of `needs`, which a target of package `ix` requires, are on.
+/// Returns whether all of `needs`, which a target of package `ix` requires, are on. The only error is out of memory.
 fn are_met<P: Platform>(
+    alloc: Global,
     rules: &TargetRules<'_, '_, '_, '_, P>,
     ix: usize,
     package: &Package<'_>,
     needs: &[&str],
-) -> bool
-    ensures { result ≡ list_all (spec.is_met (rules_text P.holds rules.now) ix (package_text «package».now)) (texts needs.now) }
+) -> Result<bool, AllocError>
+    ensures { IfOk result (λ b. b ≡ list_all (spec.is_met (rules_text P.holds rules.now) ix (package_text «package».now)) (texts needs.now)) }
 {
     for need in needs {
-        if !is_met(rules, ix, package, need) {
-            return false;
+        if !is_met(alloc, rules, ix, package, need)? {
+            return Ok(false);
         }
     }
-    true
+    Ok(true)
 }
 
-/// Returns whether `target` of package `ix` is built.
+/// Returns whether `target` of package `ix` is built. The only error is out of memory.
 fn is_built<P: Platform>(
+    alloc: Global,
     rules: &TargetRules<'_, '_, '_, '_, P>,
     ix: usize,
     package: &Package<'_>,
     target: &Target<'_>,
-) -> bool
-    ensures { result ≡ spec.is_built (rules_text P.holds rules.now) ix (package_text «package».now) (target_text target.now) }
+) -> Result<bool, AllocError>
+    ensures { IfOk result (λ b. b ≡ spec.is_built (rules_text P.holds rules.now) ix (package_text «package».now) (target_text target.now)) }
 {
-    is_chosen(rules.settings.test, target) && are_met(rules, ix, package, &target.required_features)
+    if is_chosen(rules.settings.test, target) {
+        are_met(alloc, rules, ix, package, &target.required_features)
+    } else {
+        Ok(false)
+    }
 }
 
-/// Returns whether a target of package `ix` is built that is a procedural macro.
+/// Returns whether a target of package `ix` is built that is a procedural macro. The only error is out of memory.
 fn builds_macro<P: Platform>(
+    alloc: Global,
     rules: &TargetRules<'_, '_, '_, '_, P>,
     ix: usize,
     package: &Package<'_>,
-) -> bool
-    ensures { result ≡ list_any (λ t. has_kind (codes "proc-macro") t && spec.is_built (rules_text P.holds rules.now) ix (package_text «package».now) t) (package_text «package».now).targets }
+) -> Result<bool, AllocError>
+    ensures { IfOk result (λ b. b ≡ list_any (λ t. is_macro_target t && spec.is_built (rules_text P.holds rules.now) ix (package_text «package».now) t) (package_text «package».now).targets) }
 {
     for target in &package.targets {
-        if target.has_kind("proc-macro") && is_built(rules, ix, package, target) {
-            return true;
+        if target.is_proc_macro() && is_built(alloc, rules, ix, package, target)? {
+            return Ok(true);
         }
     }
-    false
+    Ok(false)
 }
 
-/// Returns whether a target of package `ix` is built that is no procedural macro.
+/// Returns whether a target of package `ix` is built that is no procedural macro. The only error is out of memory.
 fn builds_other<P: Platform>(
+    alloc: Global,
     rules: &TargetRules<'_, '_, '_, '_, P>,
     ix: usize,
     package: &Package<'_>,
-) -> bool
-    ensures { result ≡ list_any (λ t. not (has_kind (codes "proc-macro") t) && spec.is_built (rules_text P.holds rules.now) ix (package_text «package».now) t) (package_text «package».now).targets }
+) -> Result<bool, AllocError>
+    ensures { IfOk result (λ b. b ≡ list_any (λ t. not (is_macro_target t) && spec.is_built (rules_text P.holds rules.now) ix (package_text «package».now) t) (package_text «package».now).targets) }
 {
     for target in &package.targets {
-        if !target.has_kind("proc-macro") && is_built(rules, ix, package, target) {
-            return true;
+        if !target.is_proc_macro() && is_built(alloc, rules, ix, package, target)? {
+            return Ok(true);
         }
     }
-    false
+    Ok(false)
 }
 
-/// Returns whether a target of package `ix` is built that is a procedural macro, if `macros`, or else one that isn't.
+/// Returns whether a target of package `ix` is built that is a procedural macro, if `macros`, or else one that isn't. The only error is
+/// out of memory.
 pub(crate) fn builds<P: Platform>(
+    alloc: Global,
     rules: &TargetRules<'_, '_, '_, '_, P>,
     macros: bool,
     ix: usize,
     package: &Package<'_>,
-) -> bool
-    ensures { result ≡ spec.builds (rules_text P.holds rules.now) macros ix (package_text «package».now) }
+) -> Result<bool, AllocError>
+    ensures { IfOk result (λ b. b ≡ spec.builds (rules_text P.holds rules.now) macros ix (package_text «package».now)) }
 {
     if macros {
-        builds_macro(rules, ix, package)
+        builds_macro(alloc, rules, ix, package)
     } else {
-        builds_other(rules, ix, package)
+        builds_other(alloc, rules, ix, package)
     }
 }

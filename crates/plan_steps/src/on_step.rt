@@ -3,7 +3,7 @@ ghost use Rattle.std.specs.Prelude.{◌≡◌, ◌+◌, ◌*◌, ◌<◌, ◌≤
 ghost use Rattle.cargo_workspaces.specs.WorkspaceView.{workspace_text};
 ghost use Rattle.plan_rows.specs.Commands.{are_commands, command_texts};
 ghost use Rattle.plan_rows.specs.SettingsView.{settings_text};
-ghost use Rattle.plan_units.specs.plan_starts.Targets.{is_macro};
+ghost use Rattle.plan_units.specs.plan_starts.Targets.{has_macro};
 ghost use Rattle.plan_units.specs.Commands.{command_places, on_starts};
 ghost use Rattle.plan_units.specs.step_visits.Visits.{place_view};
 ghost use Rattle.plan_steps.specs.Plans.{IsOn};
@@ -30,7 +30,7 @@ fn tables<P: Platform>(
     rows.package_graph(alloc)
 }
 
-/// Appends the command features of procedural macros on the host side, if sides are told apart.
+/// Appends the command features of packages with a procedural macro on the host side, if sides are told apart.
 fn push_host<'s, P: Platform>(
     places: &mut Vec<(usize, FeatureLabel<'s>)>,
     workspace: &Workspace<'_>,
@@ -38,7 +38,7 @@ fn push_host<'s, P: Platform>(
 ) -> Result<(), AllocError>
     requires { length (workspace_text workspace.now).packages + length settings.now.commands.now < 2 ^ 64 }
     ensures { OnOk result (map place_view places.new.items ≡ map place_view places.old.items
-        ++ (if settings.now.split then command_places (is_macro (workspace_text workspace.now).packages) (length (workspace_text workspace.now).packages) (command_texts settings.now.commands.now) else [])) }
+        ++ (if settings.now.split then command_places (has_macro (workspace_text workspace.now).packages) (length (workspace_text workspace.now).packages) (command_texts settings.now.commands.now) else [])) }
 {
     if !settings.split {
         return Ok(());

@@ -5,7 +5,7 @@ use Rattle.plan_starts.specs.feature_labels.Names.LabelName.{named}
 use Rattle.cargo_workspaces.specs.Workspaces.{FeatureText, WorkspaceText}
 use Rattle.plan_starts.specs.plan_rows.Steps.{SettingsText}
 use Rattle.plan_starts.specs.Lists.{joined_from}
-use Rattle.plan_starts.specs.Targets.{is_macro}
+use Rattle.plan_starts.specs.Targets.{has_macro}
 
 -- The label of a command feature.
 abbrev pub command_label : LabelName
@@ -23,8 +23,8 @@ command_places test first commands = commands_from test first 0 commands
 abbrev pub resolved_starts : WorkspaceText → SettingsText → List (ℕ × LabelName)
 resolved_starts w s = command_places (λ p. true) (length w.packages) s.commands
 
--- Step `on` starts on the target side; procedural macros start on the host side too, if sides are told apart.
+-- Step `on` starts on the target side. If sides are told apart, packages with a target that is a procedural macro start on the host side too.
 abbrev pub on_starts : WorkspaceText → SettingsText → List (ℕ × LabelName)
 on_starts w s =
     command_places (λ p. true) 0 s.commands
-    ++ (if s.split then command_places (is_macro w.packages) (length w.packages) s.commands else [])
+    ++ (if s.split then command_places (has_macro w.packages) (length w.packages) s.commands else [])

@@ -13,8 +13,8 @@ use Rattle.cargo_json.specs.Fields.{text_in, optional_text_in, list_in, texts_in
 use Rattle.workspace_documents.specs.Lists.{ById, at_id, each}
 use Rattle.workspace_documents.specs.Packages.{DeclarationText, PackageText, use_in}
 use Rattle.workspace_documents.specs.Nodes.{DepText, NodeText, ResolvedText, found_or, package_at, dep_in, no_node, node_in, resolve_in, nodes_in, known, members_in, node_of, resolved_in}
-use Rattle.workspace_documents.specs.Dependencies.{FoundPackage, nothing, one, several, found_of, pick, if_nothing, choice_of, is_used, is_admitted, is_as_named, one_or, led_to, choice, target_of}
-use Rattle.workspace_documents.specs.Leads.{lead_in, leads_in, all_leads, root_of, root_in}
+use Rattle.workspace_documents.specs.Dependencies.{FoundPackage, nothing, one, several, found_of, pick, if_nothing, choice_of, is_used, is_admitted, is_as_named, one_or, led_to, choice}
+use Rattle.workspace_documents.specs.Leads.{single, lead_in, leads_in, all_leads, root_of, root_in}
 use Rattle.workspace_documents.specs.Rules.{is_known, is_known_if_any, LeadsOf}
 use Rattle.workspace_documents.proofs.Sorted.{ok_same, both_ok, by_id_all}
 
@@ -184,19 +184,25 @@ module _ (packages : ById PackageText) where
   choice_known true several b c e x y z v = one_or_known e _ v (several_known c z)
   choice_known false several b c e x y z v = one_or_known e _ v (several_known c z)
 
+  single_known : (optional : Bool) (f : FoundPackage) → FoundKnown f → FoundKnown (single optional f)
+  single_known optional nothing x = tt
+  single_known optional (one p) x = x
+  single_known true several x = tt
+  single_known false several x = tt
+
   led_known : (id name : Text) (f : FoundPackage) (o : Option PackageText) → FoundKnown f → led_to id name f ≡ Ok o → is_known_if_any packages (option_map (λ p. p.id) o) ≡ true
   led_known id name nothing o k h = ap (λ (o : Option PackageText). is_known_if_any packages (option_map (λ p. p.id) o)) (sym (ok_same None o h))
   led_known id name (one p) o k h = ap (λ (o : Option PackageText). is_known_if_any packages (option_map (λ p. p.id) o)) (sym (ok_same (Some p) o h)) ∙ k
   led_known id name several o k h = cc
 
   lead_known : (id : Text) (deps : List DepText) (d : DeclarationText) (lead : Option Text) → list_all knows deps ≡ true → lead_in id deps d ≡ Ok lead → is_known_if_any packages lead ≡ true
-  unfolding lead_in target_of
+  unfolding lead_in
   lead_known id deps d lead all h =
-      let target = both_ok (target_of id d deps) (λ (o : Option PackageText). Ok (option_map (λ p. p.id) o)) lead h in
+      let target = both_ok (led_to id d.name (single d.is_optional (choice id d deps))) (λ (o : Option PackageText). Ok (option_map (λ p. p.id) o)) lead h in
       let both = λ (e : DeclarationText) (dep : DepText). is_used e dep && is_admitted e dep in
       let named = λ (e : DeclarationText) (dep : DepText). is_used e dep && is_as_named e dep in
       ap (is_known_if_any packages) (sym (ok_same (option_map (λ p. p.id) target.0) lead target.2))
-      ∙ led_known id d.name (choice id d deps) target.0 (choice_known d.is_optional (pick is_used id d deps) (pick is_admitted id d deps) (pick both id d deps) (pick named id d deps) (pick_known is_used id d deps all) (pick_known is_admitted id d deps all) (pick_known both id d deps all) (pick_known named id d deps all)) target.1
+      ∙ led_known id d.name (single d.is_optional (choice id d deps)) target.0 (single_known d.is_optional (choice id d deps) (choice_known d.is_optional (pick is_used id d deps) (pick is_admitted id d deps) (pick both id d deps) (pick named id d deps) (pick_known is_used id d deps all) (pick_known is_admitted id d deps all) (pick_known both id d deps all) (pick_known named id d deps all))) target.1
 
   leads_known : (id : Text) (deps : List DepText) (ds : List DeclarationText) (leads : List (Option Text)) → list_all knows deps ≡ true → leads_in id deps ds ≡ Ok leads → (length leads ≡ length ds) × (list_all (is_known_if_any packages) leads ≡ true)
   leads_known id deps [] leads all h = let is : [] ≡ leads = ok_same [] leads h in (ap length (sym is), ap (list_all (is_known_if_any packages)) (sym is))

@@ -1,5 +1,5 @@
 -- What a document says about a workspace, by the ids of packages.
-use Rattle.std.specs.Prelude.{List, [], ◌∷◌, codes, Option, Some, None, Result, Ok, option_map}
+use Rattle.std.specs.Prelude.{List, [], ◌∷◌, codes, Bool, true, false, Option, Some, None, Result, Ok, option_map}
 use Rattle.json.specs.Json.{Json}
 use Rattle.cargo_json.specs.declared.fault.Place.TheVariants as place
 use Rattle.cargo_json.specs.Faults.{Text, Refusal, ◌>>=◌}
@@ -7,11 +7,18 @@ use Rattle.cargo_json.specs.Fields.{optional_text_in}
 use Rattle.workspace_documents.specs.Lists.{ById}
 use Rattle.workspace_documents.specs.Packages.{DeclarationText, PackageText, packages_in}
 use Rattle.workspace_documents.specs.Nodes.{DepText, NodeText, package_at, resolve_in, members_in, node_of, resolved_in}
-use Rattle.workspace_documents.specs.Dependencies.{target_of}
+use Rattle.workspace_documents.specs.Dependencies.{FoundPackage, nothing, one, several, choice, led_to}
 
--- The id of the package that a declaration of the package `id` leads to, if any.
+-- The package that a declaration leads to, by what was found for it. An optional one leads to none of several.
+abbrev pub single : Bool → FoundPackage → FoundPackage
+single optional nothing = nothing
+single optional (one p) = one p
+single true several = nothing
+single false several = several
+
+-- The id of the package that a declaration of the package `id` leads to, if any. A required one for which several are found is a fault.
 unfoldable pub lead_in : Text → List DepText → DeclarationText → Result (Option Text) Refusal
-lead_in id deps d = target_of id d deps >>= λ target. Ok (option_map (λ p. p.id) target)
+lead_in id deps d = led_to id d.name (single d.is_optional (choice id d deps)) >>= λ target. Ok (option_map (λ p. p.id) target)
 
 -- The same for each declaration, in their order, or the first fault.
 abbrev pub leads_in : Text → List DepText → List DeclarationText → Result (List (Option Text)) Refusal

@@ -23,6 +23,7 @@ texts_at name d = unwrap_or (option_and_then all_texts (option_and_then as_array
 unfoldable pub target_in : Json → TargetText
 target_in d = record {
   kinds = texts_at (codes "kind") d;
+  crate_types = texts_at (codes "crate_types") d;
   test = flag_at (codes "test") d;
   doctest = flag_at (codes "doctest") d;
   required_features = texts_at (codes "required-features") d;

@@ -300,7 +300,11 @@ pub fn choice<'p, 'v>(
 }
 
 /// Returns the fault `Ambiguous` for the declaration `name` of the package `package`.
-fn ambiguous(alloc: Global, package: &str, name: &str) -> Result<DocumentFault, AllocError>
+pub(crate) fn ambiguous(
+    alloc: Global,
+    package: &str,
+    name: &str,
+) -> Result<DocumentFault, AllocError>
     ensures { IfOk result (λ e. refusal_of e ≡ fault.ambiguous «package».now name.now) }
 {
     Ok(DocumentFault::Ambiguous {
@@ -311,7 +315,7 @@ fn ambiguous(alloc: Global, package: &str, name: &str) -> Result<DocumentFault, 
 
 /// Returns the package that `declaration` of the package `id` leads to, if there is one. Returns `Ambiguous` if there are several.
 #[tactic(auto, unfolding(crate::specs::Dependencies::target_of))]
-pub(crate) fn target_of<'p, 'v>(
+fn target_of<'p, 'v>(
     alloc: Global,
     id: &str,
     declaration: &Declaration<'_>,

@@ -8,7 +8,7 @@ ghost use Rattle.workspace_documents.specs.Views.{declaration_view, dep_view, no
 ghost use Rattle.workspace_documents.specs.LeadViews.{lead_view, leads_view, links_view, described_view};
 ghost use Rattle.workspace_documents.specs.Nodes.{no_node};
 
-use crate::dependencies::target_of;
+use crate::dependencies::{Found, ambiguous, choice};
 use crate::nodes::{Dep, Node, Nodes, members_in, node_at, package_at, resolve_in, resolved_in};
 use crate::packages::{Declaration, Package, Packages, packages_of};
 use cargo_json::{DocumentFault, Place, optional_text_in, parts_of};
@@ -45,9 +45,8 @@ pub struct Described<'v> {
     pub links: Links<'v>,
 }
 
-/// Returns the id of the package that a declaration of the package `id` leads to, or None.
-///
-/// The error says that the declaration is ambiguous, or that memory ran out.
+/// Returns the id of the package that a declaration of the package `id` leads to, or None. An optional declaration for which several
+/// packages are found leads to none. Returns `Ambiguous` for a required one, and `Memory` if an allocation fails.
 #[tactic(auto, unfolding(crate::specs::Leads::lead_in))]
 fn lead_of<'v>(
     alloc: Global,
@@ -57,9 +56,16 @@ fn lead_of<'v>(
 ) -> Result<Option<&'v str>, DocumentFault>
     ensures { Gives lead_view result (spec.lead_in id.now (map dep_view deps.now) (declaration_view declaration.now)) }
 {
-    match target_of(alloc, id, declaration, deps)? {
-        Some(target) => Ok(Some(target.id)),
-        None => Ok(None),
+    match choice(alloc, id, declaration, deps)? {
+        Found::Nothing => Ok(None),
+        Found::One(target) => Ok(Some(target.id)),
+        Found::Several => {
+            if declaration.is_optional {
+                Ok(None)
+            } else {
+                Err(ambiguous(alloc, id, declaration.name)?)
+            }
+        }
     }
 }
 

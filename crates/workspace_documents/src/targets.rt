@@ -52,9 +52,11 @@ fn target_of<'v>(alloc: Global, object: &Value<'v>) -> Result<Target<'v>, AllocE
     ensures { IfOk result (λ target. target_text target ≡ spec.target_in (value_view object.now)) }
 {
     let kinds = texts_at(alloc, object, "kind")?;
+    let crate_types = texts_at(alloc, object, "crate_types")?;
     let required_features = texts_at(alloc, object, "required-features")?;
     Ok(Target {
         kinds,
+        crate_types,
         test: flag_at(object, "test"),
         doctest: flag_at(object, "doctest"),
         required_features,

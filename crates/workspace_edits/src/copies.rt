@@ -35,9 +35,11 @@ fn copy_of_target<'v>(alloc: Global, target: &Target<'v>) -> Result<Target<'v>, 
     ensures { IfOk result (λ copy. target_text copy ≡ target_text target.now) }
 {
     let kinds = Vec::from_slice(alloc, &target.kinds)?;
+    let crate_types = Vec::from_slice(alloc, &target.crate_types)?;
     let required_features = Vec::from_slice(alloc, &target.required_features)?;
     Ok(Target {
         kinds,
+        crate_types,
         test: target.test,
         doctest: target.doctest,
         required_features,
