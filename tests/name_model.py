@@ -26,10 +26,21 @@ def version_fits(word, version):
     return word in (version, plain) or "-" not in plain and plain.startswith(word + ".")
 
 
+def name_fits(word, package):
+    """Whether a word is a package's name, `NAME@VERSION` or `NAME:VERSION`."""
+    name, rest = word[:len(package["name"])], word[len(package["name"]):]
+    return name == package["name"] and (not rest or rest[0] in "@:" and version_fits(rest[1:], package["version"]))
+
+
 def spec_fits(word, package):
-    """Whether a word is a package's name, or `NAME@VERSION`."""
-    name, at, version = word.partition("@")
-    return name == package["name"] and (not at or version_fits(version, package["version"]))
+    """Whether a word names a package by its name, or by its source or URL and perhaps `#` and its name, version or both."""
+    place, mark, fragment = word.partition("#")
+    source = package["id"].partition("#")[0]
+    url = source.partition("?")[0]
+    for kind in ("registry+", "git+", "path+"):
+        url = url[len(kind):] if url.startswith(kind) else url
+    is_last = url.endswith("/" + package["name"]) and (not mark or version_fits(fragment, package["version"]))
+    return name_fits(word, package) or place in (source, url) and (is_last or mark != "" and name_fits(fragment, package))
 
 
 def packages_named(document, word):
@@ -116,6 +127,7 @@ def package(id, name, version, features=(), dependencies=()):
 
 # Two members, a and b; two versions of clap; an id that contains slashes.
 APP, OTHER, OLD, NEW, PRE, LOG = "path+file:///w/app#0.1.0", "path+file:///w/b#other@0.2.0", "r#clap@3.2.25", "r#clap@4.0.32", "r#clap@4.1.0-rc.1", "r#log@0.4.17+extra"
+GIT = "git+https://host/repo?branch=b#gitted@0.3.1"
 DOCUMENT = {
     "packages": [
         package(APP, "app", "0.1.0", ["default", "tls", "tls-native"], [dependency("clap", True), dependency("clap", True), dependency("log"), dependency("log", True, "logger")]),
@@ -123,6 +135,7 @@ DOCUMENT = {
         package(OLD, "clap", "3.2.25", ["std", "yaml"]),
         package(NEW, "clap", "4.0.32", ["std", "help"]),
         package(PRE, "clap", "4.1.0-rc.1"),
+        package(GIT, "gitted", "0.3.1"),
         package(LOG, "log", "0.4.17+extra", ["std", "std-extra", "a*b"]),
     ]
 }
@@ -137,6 +150,25 @@ WORKED = [
     ([APP], "clap@4.0.3", ("unknown",)),
     ([APP], "clap@4.1.0-rc.1", ("named", [(PRE, None)])),
     ([APP], "log@0.4.17", ("named", [(LOG, None)])),
+    ([APP], "clap:3", ("named", [(OLD, None)])),
+    ([APP], "clap:4", ("named", [(NEW, None)])),
+    ([APP], "clap:", ("unknown",)),
+    ([APP], "clap3", ("unknown",)),
+    # as cargo 1.95 does with a dependency of a branch
+    ([APP], GIT, ("named", [(GIT, None)])),
+    ([APP], "https://host/repo#gitted", ("named", [(GIT, None)])),
+    ([APP], "git+https://host/repo?branch=b#gitted", ("named", [(GIT, None)])),
+    ([APP], "git+https://host/repo?branch=b#gitted@0.3", ("named", [(GIT, None)])),
+    ([APP], "git+https://host/repo#gitted", ("unknown",)),
+    ([APP], "https://host/repo?branch=b#gitted", ("unknown",)),
+    ([APP], "git+https://host/repo?branch=b#0.3", ("unknown",)),
+    ([APP], "git+https://host/repo?branch=main#gitted", ("unknown",)),
+    ([APP], "file:///w/app", ("named", [(APP, None)])),
+    ([APP], "file:///w/app#0.1", ("named", [(APP, None)])),
+    ([APP], "file:///w/b#other", ("named", [(OTHER, None)])),
+    ([APP], "file:///w/b", ("unknown",)),
+    ([APP], "file:///w/app/tls", ("named", [(APP, "tls")])),
+    ([APP], "clap::4", ("unknown",)),
     # a name in a spec; an id is cut at the last slash
     ([APP], "app/tls", ("named", [(APP, "tls")])),
     ([APP], APP + "/tls", ("named", [(APP, "tls")])),

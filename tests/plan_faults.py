@@ -127,8 +127,13 @@ def plan_faults(cases):
     manifest = 'look it up in its manifest'
     needs = 'features are asked for, and no selected package is a member of the workspace: select a member, or leave the features out'
     at = 'path+file:///w'
-    yield 'no package', command, ['-p', 'nobody'], 'no package of the document fits `nobody`: write NAME, NAME@VERSION or an id'
-    yield 'the second word', command, ['-p', 'tool', '-p', 'tool@2'], 'no package of the document fits `tool@2`: write NAME, NAME@VERSION or an id'
+    spec = "write NAME, NAME@VERSION, an id, or a pattern of members' names with `*`"
+    for word in ([], ['-F', 'no']):
+        yield f'no selected package{"".join(word)}', cases['no-default'], word, (
+            'no package is selected: the workspace has no default members, or no members at all; select packages by -p or --workspace')
+    yield 'no package', command, ['-p', 'nobody'], f'no package of the document fits `nobody`: {spec}'
+    yield 'the second word', command, ['-p', 'tool', '-p', 'tool@2'], f'no package of the document fits `tool@2`: {spec}'
+    yield 'a pattern', command, ['-p', 'tool', '-p', 'x*'], f'no package of the document fits `x*`: {spec}'
     ids = f'\n  {at}/ext/new#old@1.10.0\n  {at}/ext/old#1.2.3'
     yield 'several packages', others, ['-p', 'old'], f'several packages fit `old`: write NAME@VERSION or one of these ids{ids}'
     yield 'several packages of a version', others, ['-p', 'old@1'], f'several packages fit `old@1`: write NAME@VERSION or one of these ids{ids}'

@@ -231,17 +231,40 @@ def is_version(word, version):
     return word in (version, numbers) or '-' not in numbers and numbers.startswith(f'{word}.')
 
 
+def is_named(word, package):
+    """Whether `word` is the package's name, or its name, `@` or `:`, and a version."""
+    name, mark, version = re.fullmatch('([^@:]*)([@:]?)(.*)', word, re.DOTALL).groups()
+    return name == package.name and (not mark or is_version(version, package.version))
+
+
+def is_spec(word, package):
+    """Whether `word` names the package: by its name, or by the URL of its source, with or without its kind and query."""
+    place, mark, fragment = word.partition('#')
+    source = package.id.partition('#')[0]
+    url = re.sub('^(registry|git|path)[+]', '', source).partition('?')[0]
+    is_last = url.endswith(f'/{package.name}') and (not mark or is_version(fragment, package.version))
+    return is_named(word, package) or place in (source, url) and (is_named(fragment, package) or is_last)
+
+
 def packages_named(document, word):
-    name, at, version = word.partition('@')
-    return [id for id, it in document.packages.items() if id == word] or [
-        id for id, it in document.packages.items() if it.name == name and (not at or is_version(version, it.version))]
+    return [id for id in document.packages if id == word] or [id for id, it in document.packages.items() if is_spec(word, it)]
 
 
-def package_named(document, word):
+def members_fitting(document, pattern):
+    """The members whose names fit a pattern, in which a star stands for any text."""
+    pattern = re.compile('.*'.join(map(re.escape, pattern.split('*'))), re.DOTALL)
+    return [id for id in document.members if pattern.fullmatch(document.packages[id].name)]
+
+
+def selected_by(document, word):
+    """What a word of `-p` selects: the one package that it names, else the members that fit it."""
     found = packages_named(document, word)
-    if len(found) != 1:
+    if len(found) > 1:
         raise Refused(f'the word {word} names {len(found)} packages')
-    return found[0]
+    fitting = found or members_fitting(document, word)
+    if not fitting:
+        raise Refused(f'nothing fits the word {word}')
+    return fitting
 
 
 def is_ambiguous(value, words):
@@ -250,11 +273,12 @@ def is_ambiguous(value, words):
 
 
 def selected_packages(document, selection):
-    if selection.is_workspace:
-        return document.members
     if selection.words is None:
-        return document.default_members
-    return [package_named(document, it) for it in selection.words]
+        selected = document.members if selection.is_workspace else document.default_members
+        if not selected:
+            raise Refused('no package is selected')
+        return selected
+    return [id for it in selection.words for id in selected_by(document, it)]
 
 
 def item_of_word(package, word):

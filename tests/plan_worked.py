@@ -26,6 +26,8 @@ class Worked(NamedTuple):
     shows: str
     packages: list
     rows: list
+    # folders of the default members, or None
+    default: list = None
 
 
 def leaf(*features, **how):
@@ -289,6 +291,45 @@ WORKED = [
         Row('-p a -p leaf', 'refused', cargo='target a; target leaf', differs='version resolving reaches one of the packages'),
         Row('-p a -p leaf@0.1', 'target a; target leaf'),
     ]),
+    Worked('patterns', 'a word of `-p` that names no package selects the members whose names fit it', [
+        member('alpha'), member('apex'), member('beta', leaf()), LEAF,
+    ], [
+        Row('-p a*', 'target alpha; target apex'),
+        Row('-p *a', 'target alpha; target beta; target leaf'),
+        Row('-p a*h*a', 'target alpha'),
+        Row('-p *', 'target alpha; target apex; target beta; target leaf'),
+        Row('-p alpha -p a*', 'target alpha; target apex'),
+        Row('-p al* -p a*', 'target alpha; target apex'),
+        Row('-p x*', 'refused'),
+        Row('-p leaf*', 'refused'),
+        Row('-p a*@0.1.0', 'refused'),
+        Row('-p a* -p al*', 'target alpha; target apex', cargo='refused', differs='cargo refuses a pattern all of whose members fit patterns before it'),
+        Row('-p a**', 'target alpha; target apex', cargo='refused', differs='two stars together are no pattern of cargo'),
+        Row('-p ?lpha', 'refused', cargo='target alpha', differs='a star is the only sign of a pattern'),
+        Row('-p [ab]*', 'refused', cargo='target alpha; target apex; target beta; target leaf', differs='a star is the only sign of a pattern'),
+    ]),
+    Worked('urls', 'a word of `-p` may be the URL of a package, with or without its kind, and the package\'s name, version or both', [
+        member('a', Declared('ext/folder'), Declared('vendor/old')), Package('ext/folder', 'other'), Package('ext/leaf', 'leaf'),
+        member('b', Declared('ext/leaf')), Package('vendor/old', 'old'),
+    ], [
+        *(Row(f'-p b -p {word}', 'target b; target leaf') for word in (
+            'file:///w/ext/leaf', 'path+file:///w/ext/leaf', 'file:///w/ext/leaf#leaf', 'file:///w/ext/leaf#0.1', 'path+file:///w/ext/leaf#leaf@0',
+            'file:///w/ext/leaf#leaf:0.1.0')),
+        *(Row(f'-p a -p {word}', 'target a; target old 0.1.0; target other') for word in (
+            'file:///w/ext/folder#other', 'file:///w/ext/folder#other@0.1.0', 'https://github.com/rust-lang/crates.io-index#old',
+            'registry+https://github.com/rust-lang/crates.io-index#old@0.1')),
+        *(Row(f'-p a -p b -p {word}', 'refused') for word in (
+            'git+file:///w/ext/leaf', 'file:///w/ext/leaf?x=1', 'path+file:///w/ext/leaf#1', 'file:///w/ext/folder', 'file:///w/ext/folder#0.1.0',
+            'https://github.com/rust-lang/crates.io-index', 'https://github.com/rust-lang/crates.io-index#0.1.0', 'ext/leaf')),
+        Row('-p b -p file:///w/ext/leaf#', 'refused'),
+        Row('-p b -p file:///w/ext/../ext/leaf', 'refused', cargo='target b; target leaf', differs='cargo brings the URL of a word into its usual form'),
+    ]),
+    Worked('no-default', 'a selection must have a package, and a workspace may have no default member', [member('a', leaf()), LEAF], [
+        Row('', 'refused'),
+        Row('-F no-such-feature', 'refused'),
+        Row('-p a', 'target a; target leaf'),
+        Row('--workspace', 'target a; target leaf'),
+    ], default=[]),
     Worked('others', 'packages that aren\'t members can be named; if all are such, the members start with their defaults', [
         member('a', leaf(), Declared('ext/old'), features={'default': ['leaf/x'], 'b': []}), LEAF,
         Package('ext/old', 'old', '1.2.3', declared=[Declared('ext/new', rename='later')]), Package('ext/new', 'old', '1.10.0'),
@@ -301,6 +342,11 @@ WORKED = [
         Row('-p leaf --target linux --no-default-features', 'refused'),
         Row('-p old@1.2', 'target old 1.10.0; target old 1.2.3'),
         Row('-p old@1.10.0', 'target old 1.10.0'),
+        Row('-p old:1.2', 'target old 1.10.0; target old 1.2.3'),
+        Row('-p old:1.10.0', 'target old 1.10.0'),
+        Row('-p old:1', 'refused'),
+        Row('-p old:1.1', 'refused'),
+        Row('-p old@1:10', 'refused'),
         Row('-p old', 'refused'),
         Row('-p nobody', 'refused'),
         Row('-p tested', 'refused'),
@@ -315,7 +361,7 @@ def workspaces():
     for it in WORKED:
         for resolver in sorted({row.resolver for row in it.rows}):
             rows = [row for row in it.rows if row.resolver == resolver]
-            yield Workspace(it.name if resolver == '2' else f'{it.name}-{resolver}', resolver, it.packages), it.shows, rows
+            yield Workspace(it.name if resolver == '2' else f'{it.name}-{resolver}', resolver, it.packages, it.default), it.shows, rows
 
 
 TRIPLES = {'linux': LINUX, 'windows': WINDOWS, 'mac': MAC}

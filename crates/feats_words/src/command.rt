@@ -127,7 +127,7 @@ fn with_selection<'a>(alloc: Global, command: Made<'a>, hides_format: bool) -> M
             "package",
             'p',
             "SPEC",
-            "A package to build: NAME, NAME@VERSION or an id; without it and --workspace the default members",
+            "A package to build: NAME, NAME@VERSION or an id, or members by a pattern as `a*`; without it and --workspace the default members",
         ),
     );
     let command = with_arg(

@@ -14,7 +14,7 @@ use Rattle.cargo_plans.specs.plan_starts.PackageVisits.{is_on}
 use Rattle.plan_words.specs.Choices.{ChosenText, StartedText, choose, command, commands_from, commands_of, members_among, root_of, started}
 use Rattle.plan_words.specs.FeatureWords.{Addressed, PartsText, addressed, addressed_by, addressed_to, first_of, has_feature, is_slash, items_of_words, may_ask, member_called, own_item, own_item_by, parts_of, takes_defaults, usual_items, value_if, without_mark}
 use Rattle.plan_words.specs.ItemChecks.{dependency_refusal, item_refusal, item_refusal_by, lead_refusal, member_refusal}
-use Rattle.plan_words.specs.PackageWords.{selected}
+use Rattle.plan_words.specs.PackageWords.{selected, some_of}
 use Rattle.plan_words.specs.Refusals.{Refusal, no_dependency, no_feature, unless, ◌>>=◌}
 use Rattle.plan_words.specs.Selections.{SelectionText}
 use Rattle.cargo_plans.specs.Plans.{settings_by}
@@ -245,13 +245,17 @@ chosen_by w s chosen h =
     let same : made_by ≡ chosen = same_ok made_by chosen v.2 in
     record { packages = r.0; are_selected = r.1; begun = subst (λ (c : ChosenText). IsBegun w s r.0 c.commands) same (begun_by w s r.0 v.0 v.1) }
 
+some_ok : (xs ys : List ℕ) → some_of xs ≡ Ok ys → xs ≡ ys
+some_ok [] ys h = absurd (cc)
+some_ok (x ∷ xs) ys h = same_ok (x ∷ xs) ys h
+
 choices_grow : (w : WorkspaceText) (s : SelectionText) (split : Bool) (extra : List Text) → s.split ≡ split → ((f : Text) → Contains s.features f → CoversWord w (widest_selection split extra) f)
     → (a b : ChosenText) → choose w s ≡ Ok a → choose w (widest_selection split extra) ≡ Ok b → CommandsGrow a.commands b.commands
 choices_grow w s split extra same covered a b x y =
     let widest = widest_selection split extra in
     let c = chosen_by w s a x in
     let d = chosen_by w widest b y in
-    let members : w.members ≡ d.packages = same_ok w.members d.packages d.are_selected in
+    let members : w.members ≡ d.packages = some_ok w.members d.packages d.are_selected in
     let root : root_of w s ≡ root_of w widest = ap (λ z. if z then None else w.root) same in
     let begun : StartedText = shape w (root_of w s) (members_among w c.packages) s.features in
     subst (λ z. CommandsGrow z b.commands) c.begun.made_of

@@ -78,12 +78,18 @@ fn selection_refused<'p>(alloc: Global, workspace: &'p Workspace<'_>, fault: Wor
             &[
                 "no package of the document fits `",
                 word,
-                "`: write NAME, NAME@VERSION or an id",
+                "`: write NAME, NAME@VERSION, an id, or a pattern of members' names with `*`",
             ],
         ),
         WordFault::AmbiguousPackage { word, candidates } => {
             several_refused(alloc, workspace, word, &candidates)
         }
+        WordFault::NoPackages => refused(
+            alloc,
+            &[
+                "no package is selected: the workspace has no default members, or no members at all; select packages by -p or --workspace",
+            ],
+        ),
         WordFault::NoMember => refused(
             alloc,
             &[

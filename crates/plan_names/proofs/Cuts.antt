@@ -11,7 +11,7 @@ use Rattle.std.proofs.lemmas.Str.Pattern.{NoCharPasses-char, drop_at_char}
 use Rattle.cargo_workspaces.specs.Workspaces.{Text}
 use Rattle.plan_words.specs.FeatureWords.{is_slash}
 use Rattle.plan_names.specs.inner.Cuts.{CutText, cut_of}
-use Rattle.plan_names.proofs.Fits.{false_of, never}
+use Rattle.plan_words.proofs.PatternFits.{false_of, never}
 
 -- a test that fails at each place
 pub any_never : {X : Type 0} (p : X → Bool) (xs : List X) → ((k : ℕ) (d : X) → k < length xs → p (get_or xs k d) ≡ false) → list_any p xs ≡ false

@@ -1,5 +1,4 @@
 pub mod Among
 pub mod Cuts
-pub mod Fits
 pub mod Lists
 pub mod Once

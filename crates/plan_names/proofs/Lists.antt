@@ -7,7 +7,7 @@ use Rattle.cargo_workspaces.specs.Workspaces.{DeclarationText, FeatureText, Text
 use Rattle.cargo_workspaces.specs.Views.{declaration_text, feature_text}
 use Rattle.cargo_workspaces.specs.declared.package.Declaration.{Declaration}
 use Rattle.cargo_workspaces.specs.declared.package.Feature.{Feature}
-use Rattle.plan_names.proofs.Fits.{or_left, or_right}
+use Rattle.plan_words.proofs.PatternFits.{or_left, or_right}
 
 both : (a b : Bool) → (a && b) ≡ true → (a ≡ true) × (b ≡ true)
 both true b h = (refl, h)

@@ -1,6 +1,5 @@
 pub mod Faults
 pub mod Names
-pub mod Patterns
 pub mod Suggestions
 pub mod Views
 pub mod inner

@@ -5,7 +5,7 @@ use Rattle.std.specs.Str.{bytes_eq}
 use Rattle.cargo_workspaces.specs.Workspaces.{Text, PackageText}
 use Rattle.plan_words.specs.FeatureWords.{is_slash}
 use Rattle.plan_words.specs.PackageWords.{packages_of_word}
-use Rattle.plan_names.specs.Patterns.{fits, is_star}
+use Rattle.plan_words.specs.Patterns.{fits, is_star}
 
 -- A part of a package: itself, a feature, or an optional dependency.
 pub data PartText : Type 0 where

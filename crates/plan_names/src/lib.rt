@@ -8,7 +8,6 @@ mod near;
 mod nearest_parts;
 mod package_parts;
 mod parts;
-mod patterns;
 mod word_cuts;
 mod words;
 

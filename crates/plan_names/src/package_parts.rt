@@ -4,13 +4,13 @@ ghost use Rattle.std.specs.List.{filter, list_any};
 ghost use Rattle.std.specs.Str.{bytes_eq};
 ghost use Rattle.cargo_workspaces.specs.Views.{package_text, texts};
 ghost use Rattle.plan_names.specs.Names as spec;
-ghost use Rattle.plan_names.specs.Patterns.{fits};
+ghost use Rattle.plan_words.specs.Patterns.{fits};
 ghost use Rattle.plan_names.specs.Views.{named_text};
 ghost use Rattle.plan_names.specs.inner.News.{with_new};
 
 use crate::named::{Named, Part};
-use crate::patterns;
 use cargo_workspaces::{Declaration, Package};
+use plan_words::fits;
 use std::alloc::{AllocError, Global};
 
 /// Appends the features of `package`, which has the number `ix`, that fit `pattern`.
@@ -23,7 +23,7 @@ fn push_features<'w>(
     ensures { OnOk result (map named_text named.new.items ≡ map named_text named.old.items ++ map (spec.of_package ix) (map spec.feature (filter (fits pattern.now) (spec.feature_names (package_text «package».now))))) }
 {
     for feature in &package.features {
-        if patterns::fits(pattern, feature.name) {
+        if fits(pattern, feature.name) {
             named.push(Named {
                 package: ix,
                 part: Part::Feature(feature.name),
@@ -63,7 +63,7 @@ fn push_optional<'w>(
 ) -> Result<(), AllocError>
     ensures { OnOk result (texts names.new.items ≡ (if declaration.now.optional && fits pattern.now declaration.now.name.now then with_new (texts names.old.items) declaration.now.name.now else texts names.old.items)) }
 {
-    if declaration.optional && patterns::fits(pattern, declaration.name) {
+    if declaration.optional && fits(pattern, declaration.name) {
         push_new(names, declaration.name)?;
     }
     Ok(())

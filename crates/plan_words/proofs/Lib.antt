@@ -1,5 +1,6 @@
 pub mod CommandLemmas
 pub mod Lists
+pub mod PatternFits
 pub mod Sorted
 pub mod Texts
 pub mod Within

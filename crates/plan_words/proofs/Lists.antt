@@ -43,6 +43,10 @@ pub list_all_more : (p : ℕ → Bool) (xs : List ℕ) (x : ℕ) → list_all p 
 list_all_more p [] x h e = ap (λ t. t && true) e
 list_all_more p (y ∷ ys) x h e = ap (λ t. t && list_all p (ys ++ x ∷ [])) (both (p y) (list_all p ys) h).0 ∙ list_all_more p ys x (both (p y) (list_all p ys) h).1 e
 
+pub list_all_both : (p : ℕ → Bool) (xs ys : List ℕ) → list_all p xs ≡ true → list_all p ys ≡ true → list_all p (xs ++ ys) ≡ true
+list_all_both p [] ys h k = k
+list_all_both p (x ∷ xs) ys h k = let parts = both (p x) (list_all p xs) h in ap (λ t. t && list_all p (xs ++ ys)) parts.0 ∙ list_all_both p xs ys parts.1 k
+
 pub if_ok_filtered : {V E : Type 0} (r : Result V E) (items : V → List ℕ) (p q : ℕ → Bool) (xs : List ℕ) → IfOk r (λ v. items v ≡ filter q xs) → list_all p xs ≡ true → IfOk r (λ v. list_all p (items v) ≡ true)
 if_ok_filtered (Ok v) items p q xs e h = ap (list_all p) e ∙ list_all-filter p q xs h
 if_ok_filtered (Err d) items p q xs e h = tt

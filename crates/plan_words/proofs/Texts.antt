@@ -1,14 +1,15 @@
 -- Cuts of texts.
-use Rattle.std.proofs.Common.{◌≡◌, ◌≢◌, ℕ, zero, suc, ◌+◌, ◌-◌, ◌<◌, List, [], ◌∷◌, ◌++◌, Bool, true, false, cond, ◌||◌, not, length, take, drop, get_or, refl, ap, sym, ◌∙◌, arith, eqb, lit<}
+use Rattle.std.proofs.Common.{◌≡◌, ◌≢◌, ℕ, zero, suc, ◌+◌, ◌-◌, ◌<◌, List, [], ◌∷◌, ◌++◌, Bool, true, false, cond, ◌||◌, not, length, take, drop, get_or, refl, ap, sym, ◌∙◌, append_assoc, arith, eqb, lit<}
 use Rattle.std.specs.Prelude.{nat_eq, codes, ◌&&◌}
-use Rattle.std.specs.List.{list_any, position_or_len, ends_with, starts_with}
+use Rattle.std.specs.List.{after_first, before_first, list_any, position_or_len, ends_with, starts_with}
 use Rattle.std.specs.Cmp.Lexicographic.{bytes_decides}
 use Rattle.std.proofs.lemmas.Bool.{eqb-true, eq-eqb}
-use Rattle.std.proofs.lemmas.List.{take-append-drop}
-use Rattle.std.proofs.Math.Seq.{take-append_seam}
-use Rattle.cargo_workspaces.specs.Workspaces.{Text}
+use Rattle.std.proofs.lemmas.List.{length-append, take-append-drop}
+use Rattle.std.proofs.Math.Seq.{drop-append_seam, take-append_seam}
+use Rattle.cargo_workspaces.specs.Workspaces.{PackageText, Text}
 use Rattle.plan_words.specs.FeatureWords.{without_mark}
-use Rattle.plan_words.specs.PackageWords.{begins_numbers}
+use Rattle.plan_words.specs.PackageWords.{begins_numbers, fits_fragment, fits_rest, fits_url, fits_version, is_hash, is_last_part, is_place, without}
+use Rattle.plan_words.proofs.PatternFits.{same_tests}
 
 never : false ≡ true → ⊥
 never e = cc
@@ -84,3 +85,69 @@ unmarked name h = rw (plain) refl
   where
     plain : ends_with nat_eq name (codes "?") ≡ false
     plain = false_of _ (λ e. h (take (length name - 1) name) (sym (ap (λ l. take (length name - 1) name ++ l) ((bytes_decides (63 ∷ []) (drop (length name - 1) name)).0 e) ∙ take-append-drop (length name - 1) name)))
+
+-- what follows a name without a mark
+pub unmarked_rest : (rest version : Text) → ((more : List ℕ) → rest ≢ 64 ∷ more) → ((more : List ℕ) → rest ≢ 58 ∷ more) → eqb (length rest) 0 ≡ fits_rest rest version
+unmarked_rest [] version h k = refl
+unmarked_rest (c ∷ rest) version h k = false_of _ (λ e. absurd (omega (arith, eqb-true (suc (length rest)) 0 e))) ∙ sym (ap (λ b. b && fits_version rest version) (plain (eqb c 64) refl (eqb c 58) refl))
+  where
+    plain : (a : Bool) → eqb c 64 ≡ a → (b : Bool) → eqb c 58 ≡ b → (eqb c 64 || eqb c 58) ≡ false
+    plain true e b i = absurd (h rest (ap (λ x. x ∷ rest) (eqb-true c 64 e)))
+    plain false e true i = absurd (k rest (ap (λ x. x ∷ rest) (eqb-true c 58 i)))
+    plain false e false i = rw (e, i) refl
+
+-- a text that begins with a name, and one that doesn't
+pub named_rest : (word name version rest : Text) (n : ℕ) → n ≡ length name → word ≡ name ++ drop n word → rest ≡ drop n word
+    → fits_rest rest version ≡ (starts_with nat_eq word name && fits_rest (drop (length name) word) version)
+named_rest word name version rest n long is at =
+    let front : take (length name) word ≡ name = ap (take (length name)) is ∙ take-append_seam name (drop n word) in
+    let begins : starts_with nat_eq word name ≡ true = (bytes_decides name (take (length name) word)).1 (sym front) in
+    rw (begins) (ap (λ t. fits_rest t version) (at ∙ ap (λ k. drop k word) long))
+
+-- a text without its beginning
+pub without_front : (front text rest : Text) (n : ℕ) → n ≡ length front → text ≡ front ++ drop n text → rest ≡ drop n text → rest ≡ without front text
+without_front front text rest n long is at =
+    let same : take (length front) text ≡ front = ap (take (length front)) is ∙ take-append_seam front (drop n text) in
+    let begins : starts_with nat_eq text front ≡ true = (bytes_decides front (take (length front) text)).1 (sym same) in
+    rw (begins) (at ∙ ap (λ k. drop k text) long)
+
+pub without_other : (front text : Text) → false ≡ starts_with nat_eq text front → text ≡ without front text
+without_other front text h = ap (λ b. cond b (drop (length front) text) text) h
+
+-- a text that ends with a slash and a name
+before_name : Text → Text → ℕ
+before_name url name = length url - suc (length name)
+
+ends_split : (url name : Text) → ends_with nat_eq url (47 ∷ name) ≡ true → url ≡ (take (before_name url name) url ++ 47 ∷ []) ++ name
+unfolding before_name
+ends_split url name e =
+    let m : ℕ = length url - suc (length name) in
+    sym (take-append-drop m url) ∙ ap (λ l. take m url ++ l) (sym ((bytes_decides (47 ∷ name) (drop m url)).0 e)) ∙ sym (append_assoc (take m url) (47 ∷ []) name)
+
+same_front : (front other name : Text) → front ++ name ≡ other ++ name → front ≡ other
+same_front front other name e =
+    let long : length front ≡ length other = omega (arith, ap (λ (t : Text). length t) e, length-append front name, length-append other name) in
+    sym (take-append_seam front name) ∙ ap (take (length front)) e ∙ ap (λ k. take k (other ++ name)) long ∙ take-append_seam other name
+
+pub slash_before : (url name front : Text) (r : Bool) → url ≡ front ++ name → (r ≡ true → front ≡ take (length front - 1) front ++ (47 ∷ [])) × ((f : List ℕ) → front ≡ f ++ (47 ∷ []) → r ≡ true)
+    → r ≡ ends_with nat_eq url (47 ∷ name)
+slash_before url name front r is h = same_tests r (ends_with nat_eq url (47 ∷ name)) ahead back
+  where
+    ahead : r ≡ true → ends_with nat_eq url (47 ∷ name) ≡ true
+    ahead e =
+        let f : Text = take (length front - 1) front in
+        let whole : url ≡ f ++ 47 ∷ name = is ∙ ap (λ z. z ++ name) (h.0 e) ∙ append_assoc f (47 ∷ []) name in
+        let place : length url - suc (length name) ≡ length f = omega (arith, ap (λ (t : Text). length t) whole, length-append f (47 ∷ name)) in
+        (bytes_decides (47 ∷ name) (drop (length url - suc (length name)) url)).1 (sym (ap (λ k. drop k url) place ∙ ap (drop (length f)) whole ∙ drop-append_seam f (47 ∷ name)))
+
+    back : ends_with nat_eq url (47 ∷ name) ≡ true → r ≡ true
+    back e = h.1 (take (before_name url name) url) (same_front front (take (before_name url name) url ++ 47 ∷ []) name (sym is ∙ ends_split url name e))
+
+pub no_slash_before : (url name : Text) → ((front : List ℕ) → url ≢ front ++ name) → false ≡ ends_with nat_eq url (47 ∷ name)
+no_slash_before url name h = sym (false_of _ (λ e. h (take (before_name url name) url ++ 47 ∷ []) (ends_split url name e)))
+
+-- a word that is a source or a URL alone
+pub plain_url : (word : Text) (p : PackageText) (r place : Bool) → r ≡ is_last_part p → place ≡ true → place ≡ is_place word p → list_any is_hash word ≡ false → r ≡ fits_url word p
+plain_url word p r place e t h none =
+    e ∙ ap (λ b. b && is_last_part p) (sym t ∙ h)
+    ∙ ap (λ b. cond b (is_place (before_first is_hash word) p && fits_fragment (after_first is_hash word) p) (is_place word p && is_last_part p)) (sym none)

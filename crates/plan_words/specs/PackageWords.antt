@@ -1,13 +1,22 @@
 -- The packages that words name, as Cargo's package id specs do.
-use Rattle.std.specs.Prelude.{ℕ, ◌+◌, List, [], ◌∷◌, Bool, length, drop, Result, Ok, Err, nat_eq, not, ◌==◌, ◌&&◌, ◌||◌, if◌then◌else◌, codes}
-use Rattle.std.specs.List.{list_any, before_first, after_first, starts_with}
+use Rattle.std.specs.Prelude.{ℕ, ◌+◌, List, [], ◌∷◌, ◌++◌, Bool, true, false, length, drop, Result, Ok, Err, nat_eq, not, ◌==◌, ◌&&◌, ◌||◌, if◌then◌else◌, codes, slice_get}
+use Rattle.std.specs.List.{after_first, before_first, ends_with, filter, list_any, starts_with}
+use Rattle.std.specs.Option.{option_map_or}
 use Rattle.std.specs.Str.{bytes_eq}
 use Rattle.cargo_workspaces.specs.Workspaces.{Text, PackageText, WorkspaceText}
+use Rattle.plan_words.specs.Patterns.{fits}
 use Rattle.plan_words.specs.Selections.{ChoiceText, default_members, all_members, named}
-use Rattle.plan_words.specs.Refusals.{Refusal, unknown_package, ambiguous_package, ◌>>=◌}
+use Rattle.plan_words.specs.Refusals.{Refusal, ambiguous_package, no_packages, unknown_package, ◌>>=◌}
 
-abbrev pub is_at_sign : ℕ → Bool
-is_at_sign c = c == 64
+abbrev pub is_hash : ℕ → Bool
+is_hash c = c == 35
+
+abbrev pub is_question : ℕ → Bool
+is_question c = c == 63
+
+-- A version follows `@` or `:`.
+abbrev pub is_mark : ℕ → Bool
+is_mark c = c == 64 || c == 58
 
 abbrev pub is_plus : ℕ → Bool
 is_plus c = c == 43
@@ -32,11 +41,47 @@ fits_version word version =
     || bytes_eq word (without_build version)
     || not (has_dash (without_build version)) && begins_numbers word (without_build version)
 
--- Whether `word` is the package's name, or its name, `@` and a version that fits.
+-- Whether what follows a package's name is nothing, or `@` or `:` and a version that fits.
+abbrev pub fits_rest : Text → Text → Bool
+fits_rest [] version = true
+fits_rest (c ∷ word) version = is_mark c && fits_version word version
+
+-- Whether `word` is the package's name, or its name, `@` or `:`, and a version that fits.
+abbrev pub fits_name : Text → PackageText → Bool
+fits_name word p = starts_with nat_eq word p.name && fits_rest (drop (length p.name) word) p.version
+
+-- A text without its beginning, if that is `front`.
+abbrev pub without : Text → Text → Text
+without front text = if starts_with nat_eq text front then drop (length front) text else text
+
+-- The source in a package's id, as `git+https://host/repo?branch=b`, and its URL without the kind and the query.
+abbrev pub source_of : PackageText → Text
+source_of p = before_first is_hash p.id
+
+abbrev pub url_of : PackageText → Text
+url_of p = before_first is_question (without (codes "path+") (without (codes "git+") (without (codes "registry+") (source_of p))))
+
+-- Whether the last part of the URL is the package's name.
+abbrev pub is_last_part : PackageText → Bool
+is_last_part p = ends_with nat_eq (url_of p) (47 ∷ p.name)
+
+-- Whether what follows the `#` of a URL names the package. It may be a version if the last part of the URL is the name.
+abbrev pub fits_fragment : Text → PackageText → Bool
+fits_fragment fragment p = fits_name fragment p || is_last_part p && fits_version fragment p.version
+
+abbrev pub is_place : Text → PackageText → Bool
+is_place place p = bytes_eq place (source_of p) || bytes_eq place (url_of p)
+
+-- Whether `word` is the package's source or its URL, `#`, and what names the package; or one of the first two alone, if its last part
+-- is the name.
+abbrev pub fits_url : Text → PackageText → Bool
+fits_url word p =
+    if list_any is_hash word then is_place (before_first is_hash word) p && fits_fragment (after_first is_hash word) p
+    else is_place word p && is_last_part p
+
+-- Whether a word names the package, by its name or by its URL.
 abbrev pub is_named : Text → PackageText → Bool
-is_named word p =
-    if list_any is_at_sign word then bytes_eq (before_first is_at_sign word) p.name && fits_version (after_first is_at_sign word) p.version
-    else bytes_eq word p.name
+is_named word p = fits_name word p || fits_url word p
 
 abbrev pub has_id : Text → PackageText → Bool
 has_id word p = bytes_eq word p.id
@@ -55,20 +100,35 @@ or_else (n ∷ ns) others = n ∷ ns
 abbrev pub packages_of_word : List PackageText → Text → List ℕ
 packages_of_word packages word = or_else (numbers_from (has_id word) 0 packages) (numbers_from (is_named word) 0 packages)
 
--- A word must name one package.
-abbrev pub the_one : Text → List ℕ → Result ℕ Refusal
-the_one word [] = Err (unknown_package word)
-the_one word (p ∷ []) = Ok p
-the_one word (p ∷ q ∷ more) = Err (ambiguous_package word (p ∷ q ∷ more))
+-- The members whose names fit a pattern.
+abbrev pub has_fitting_name : WorkspaceText → Text → ℕ → Bool
+has_fitting_name w pattern m = option_map_or (λ p. fits pattern p.name) (slice_get w.packages m) false
 
--- The package of each word, or the first refusal.
-abbrev pub packages_of_words : List PackageText → List Text → Result (List ℕ) Refusal
-packages_of_words packages [] = Ok []
-packages_of_words packages (word ∷ words) =
-    the_one word (packages_of_word packages word) >>= λ p. packages_of_words packages words >>= λ ps. Ok (p ∷ ps)
+abbrev pub members_fitting : WorkspaceText → Text → List ℕ
+members_fitting w pattern = filter (has_fitting_name w pattern) w.members
+
+-- What a word selects: the one package that it names; if it names none, the members that fit it as a pattern.
+abbrev pub selected_of : Text → List ℕ → List ℕ → Result (List ℕ) Refusal
+selected_of word (p ∷ []) fitting = Ok (p ∷ [])
+selected_of word (p ∷ q ∷ more) fitting = Err (ambiguous_package word (p ∷ q ∷ more))
+selected_of word [] [] = Err (unknown_package word)
+selected_of word [] (m ∷ ms) = Ok (m ∷ ms)
+
+abbrev pub selected_by : WorkspaceText → Text → Result (List ℕ) Refusal
+selected_by w word = selected_of word (packages_of_word w.packages word) (members_fitting w word)
+
+-- What the words select, one after the other, or the first refusal.
+abbrev pub selected_by_words : WorkspaceText → List Text → Result (List ℕ) Refusal
+selected_by_words w [] = Ok []
+selected_by_words w (word ∷ words) = selected_by w word >>= λ ps. selected_by_words w words >>= λ more. Ok (ps ++ more)
+
+-- A selection must have a package.
+abbrev pub some_of : List ℕ → Result (List ℕ) Refusal
+some_of [] = Err no_packages
+some_of (p ∷ ps) = Ok (p ∷ ps)
 
 -- The selected packages, in the order of the workspace or of the words.
 abbrev pub selected : WorkspaceText → ChoiceText → Result (List ℕ) Refusal
-selected w default_members = Ok w.default_members
-selected w all_members = Ok w.members
-selected w (named words) = packages_of_words w.packages words
+selected w default_members = some_of w.default_members
+selected w all_members = some_of w.members
+selected w (named words) = selected_by_words w words

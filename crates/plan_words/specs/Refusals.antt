@@ -7,6 +7,7 @@ use Rattle.plan_words.specs.declared.fault.WordFault.TheVariants as fault
 pub data Refusal : Type 0 where
   unknown_package : Text → Refusal
   ambiguous_package : Text → List ℕ → Refusal
+  no_packages : Refusal
   no_member : Refusal
   unknown_feature : Text → Refusal
   no_feature : ℕ → Text → Refusal
@@ -16,6 +17,7 @@ pub data Refusal : Type 0 where
 abbrev pub refusal_of : WordFault → Refusal
 refusal_of (fault.UnknownPackage word) = unknown_package word.now
 refusal_of (fault.AmbiguousPackage word candidates) = ambiguous_package word.now candidates.items
+refusal_of fault.NoPackages = no_packages
 refusal_of fault.NoMember = no_member
 refusal_of (fault.UnknownFeature word) = unknown_feature word.now
 refusal_of (fault.NoFeature owner feature) = no_feature owner feature.now

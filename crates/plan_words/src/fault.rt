@@ -13,6 +13,8 @@ pub enum WordFault<'s> {
         word: &'s str,
         candidates: Vec<usize>,
     },
+    /// The selection has no package: the workspace has no member, or no default member.
+    NoPackages,
     /// Features are asked for, and no member is selected.
     NoMember,
     /// No selected member has the feature or the dependency that the word names.

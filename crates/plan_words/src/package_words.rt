@@ -1,5 +1,5 @@
 //! The packages that words name.
-ghost use Rattle.std.specs.Prelude.{◌≡◌, ◌<◌, IfOk, IsTrue, length, map, nat_lt};
+ghost use Rattle.std.specs.Prelude.{◌≡◌, IfOk, IsTrue, length, map, nat_lt};
 ghost use Rattle.std.specs.List.{list_all};
 ghost use Rattle.cargo_workspaces.specs.Views.{package_text, texts};
 ghost use Rattle.cargo_workspaces.specs.WorkspaceView.{workspace_text};
@@ -8,6 +8,7 @@ ghost use Rattle.plan_words.specs.Refusals.{Gives};
 ghost use Rattle.plan_words.specs.Selections.{choice_text};
 
 use crate::fault::WordFault;
+use crate::patterns::fits;
 use crate::selection::PackageChoice;
 use cargo_workspaces::{Package, Workspace};
 use std::alloc::{AllocError, Global};
@@ -48,14 +49,104 @@ fn fits_version(word: &str, version: &str) -> bool
     word == version || word == front || !has_dash(front) && begins_numbers(word, front)
 }
 
-/// Returns whether `word` is the name of `package`, or its name, `@` and a version that fits.
+/// Returns whether `rest`, which follows a package's name, is nothing, or `@` or `:` and a version that fits.
+fn fits_rest(rest: &str, version: &str) -> bool
+    ensures { result ≡ spec.fits_rest rest.now version.now }
+{
+    match rest.strip_prefix('@') {
+        Some(word) => fits_version(word, version),
+        None => match rest.strip_prefix(':') {
+            Some(word) => fits_version(word, version),
+            None => rest.is_empty(),
+        },
+    }
+}
+
+/// Returns whether `word` is the name of `package`, or its name, `@` or `:`, and a version that fits.
+fn fits_name(word: &str, package: &Package<'_>) -> bool
+    ensures { result ≡ spec.fits_name word.now (package_text «package».now) }
+{
+    match word.strip_prefix(package.name) {
+        Some(rest) => fits_rest(rest, package.version),
+        None => false,
+    }
+}
+
+/// Returns `text` without its beginning, if that is `front`.
+fn without<'t>(front: &str, text: &'t str) -> &'t str
+    ensures { result.now ≡ spec.without front.now text.now }
+{
+    match text.strip_prefix(front) {
+        Some(rest) => rest,
+        None => text,
+    }
+}
+
+/// Returns the source in the id of `package`.
+fn source_of<'p>(package: &Package<'p>) -> &'p str
+    ensures { result.now ≡ spec.source_of (package_text «package».now) }
+{
+    match package.id.split_once('#') {
+        Some((source, _)) => source,
+        None => package.id,
+    }
+}
+
+/// Returns the URL of the source of `package`, without its kind and its query.
+fn url_of<'p>(package: &Package<'p>) -> &'p str
+    ensures { result.now ≡ spec.url_of (package_text «package».now) }
+{
+    let url = without(
+        "path+",
+        without("git+", without("registry+", source_of(package))),
+    );
+    match url.split_once('?') {
+        Some((front, _)) => front,
+        None => url,
+    }
+}
+
+/// Returns whether the last part of the URL of `package` is its name.
+fn is_last_part(package: &Package<'_>) -> bool
+    ensures { result ≡ spec.is_last_part (package_text «package».now) }
+{
+    match url_of(package).strip_suffix(package.name) {
+        Some(front) => front.ends_with('/'),
+        None => false,
+    }
+}
+
+/// Returns whether `fragment`, which follows the `#` of a URL, names `package`. It may be a version if the last part of the URL is the
+/// name.
+fn fits_fragment(fragment: &str, package: &Package<'_>) -> bool
+    ensures { result ≡ spec.fits_fragment fragment.now (package_text «package».now) }
+{
+    fits_name(fragment, package) || is_last_part(package) && fits_version(fragment, package.version)
+}
+
+/// Returns whether `place` is the source of `package` or its URL.
+fn is_place(place: &str, package: &Package<'_>) -> bool
+    ensures { result ≡ spec.is_place place.now (package_text «package».now) }
+{
+    place == source_of(package) || place == url_of(package)
+}
+
+/// Returns whether `word` is the source of `package` or its URL, `#`, and what names the package; or one of the first two alone, if
+/// its last part is the name.
+fn fits_url(word: &str, package: &Package<'_>) -> bool
+    ensures { result ≡ spec.fits_url word.now (package_text «package».now) }
+{
+    match word.split_once('#') {
+        Some((place, fragment)) => is_place(place, package) && fits_fragment(fragment, package),
+        None => is_place(word, package) && is_last_part(package),
+    }
+}
+
+/// Returns whether `word` names `package`: by its name, perhaps with a version, or by its URL.
 fn is_named(word: &str, package: &Package<'_>) -> bool
     ensures { result ≡ spec.is_named word.now (package_text «package».now) }
 {
-    match word.split_once('@') {
-        Some((name, version)) => name == package.name && fits_version(version, package.version),
-        None => word == package.name,
-    }
+    fits_name(word, package) || fits_url(word, package)
 }
 
 /// Returns the numbers of the packages whose id is `word`.
@@ -92,8 +183,8 @@ fn packages_named(
     Ok(numbers)
 }
 
-/// Returns the numbers of the packages that `word` names, ascending: the package with this id alone, else those with this `NAME` or
-/// `NAME@VERSION`. The version may be a beginning of the package's numbers, as in `clap@4`.
+/// Returns the numbers of the packages that `word` names, ascending: the package with this id alone, else those with this `NAME`,
+/// `NAME@VERSION` or `NAME:VERSION`, or with this URL. The version may be a beginning of the package's numbers, as in `clap@4`.
 pub fn packages_of_word(
     alloc: Global,
     workspace: &Workspace<'_>,
@@ -110,13 +201,37 @@ pub fn packages_of_word(
     }
 }
 
-/// Returns the only one of `numbers`, the packages that `word` names.
-fn the_one<'s>(word: &'s str, numbers: Vec<usize>) -> Result<usize, WordFault<'s>>
-    ensures { Gives (λ p. p) result (spec.the_one word.now numbers.items) }
+/// Returns the members of `workspace` whose names fit `pattern`, in which a star stands for any text.
+fn members_fitting(
+    alloc: Global,
+    workspace: &Workspace<'_>,
+    pattern: &str,
+) -> Result<Vec<usize>, AllocError>
+    ensures { IfOk result (λ fitting. fitting.items ≡ spec.members_fitting (workspace_text workspace.now) pattern.now) }
 {
-    match *numbers.as_slice() {
-        [] => Err(WordFault::UnknownPackage(word)),
-        [only] => Ok(only),
+    // (calls named facts() carry the invariant into the proof)
+    workspace.facts();
+    let mut fitting = Vec::new(alloc);
+    for member in workspace.members() {
+        if fits(pattern, workspace.package(*member).name) {
+            fitting.push(*member)?;
+        }
+    }
+    Ok(fitting)
+}
+
+/// Returns the one of `numbers`, the packages that `word` names; if there is none, `fitting`, the members that fit it as a pattern.
+fn selected_of<'s>(
+    word: &'s str,
+    numbers: Vec<usize>,
+    fitting: Vec<usize>,
+) -> Result<Vec<usize>, WordFault<'s>>
+    ensures { Gives (λ packages. packages.items) result (spec.selected_of word.now numbers.items fitting.items) }
+{
+    match (numbers.as_slice(), fitting.as_slice()) {
+        ([], []) => Err(WordFault::UnknownPackage(word)),
+        ([], _) => Ok(fitting),
+        ([_], _) => Ok(numbers),
         _ => Err(WordFault::AmbiguousPackage {
             word,
             candidates: numbers,
@@ -124,38 +239,53 @@ fn the_one<'s>(word: &'s str, numbers: Vec<usize>) -> Result<usize, WordFault<'s
     }
 }
 
-/// Returns the number of the package that `word` names.
-fn package_of_word<'s>(
+/// Returns the numbers of the packages that `word` selects: the one that it names; if it names none, the members that fit it as a
+/// pattern.
+fn selected_by<'s>(
     alloc: Global,
     workspace: &Workspace<'_>,
     word: &'s str,
-) -> Result<usize, WordFault<'s>>
-    ensures one { Gives (λ p. p) result (spec.the_one word.now (spec.packages_of_word (workspace_text workspace.now).packages word.now)) }
-    ensures within { IfOk result (λ p. p < length (workspace_text workspace.now).packages) }
+) -> Result<Vec<usize>, WordFault<'s>>
+    ensures packages { Gives (λ packages. packages.items) result (spec.selected_by (workspace_text workspace.now) word.now) }
+    ensures within { IfOk result (λ packages. IsTrue (list_all (λ p. nat_lt p (length (workspace_text workspace.now).packages)) packages.items)) }
 {
+    // (calls named facts() carry the invariant into the proof)
+    workspace.facts();
     let numbers = packages_of_word(alloc, workspace, word)?;
-    the_one(word, numbers)
+    let fitting = members_fitting(alloc, workspace, word)?;
+    selected_of(word, numbers, fitting)
 }
 
-/// Returns the number of the package that each of `words` names, or the first fault.
-#[tactic(auto, using(crate::proofs::Lists::list_all_more))]
-fn packages_of_words<'s>(
+/// Returns the numbers of the packages that `words` select, one after the other, or the first fault.
+#[tactic(auto, using(crate::proofs::Lists::list_all_both, crate::proofs::Within::one_more_word))]
+fn selected_by_words<'s>(
     alloc: Global,
     workspace: &Workspace<'_>,
     words: &[&'s str],
 ) -> Result<Vec<usize>, WordFault<'s>>
-    ensures packages { Gives (λ packages. packages.items) result (spec.packages_of_words (workspace_text workspace.now).packages (texts words.now)) }
+    ensures packages { Gives (λ packages. packages.items) result (spec.selected_by_words (workspace_text workspace.now) (texts words.now)) }
     ensures within { IfOk result (λ packages. IsTrue (list_all (λ p. nat_lt p (length (workspace_text workspace.now).packages)) packages.items)) }
 {
     let mut packages = Vec::with_capacity(alloc, words.len())?;
     for word in words {
-        let number = package_of_word(alloc, workspace, word)?;
-        packages.push(number)?;
+        let more = selected_by(alloc, workspace, word)?;
+        packages.extend_from_slice(&more)?;
     }
     Ok(packages)
 }
 
-/// Returns the numbers of the packages that `choice` selects, in the order of the workspace or of the words.
+/// Returns `numbers`, those of the selected packages; NoPackages if there are none.
+fn some_of<'s>(alloc: Global, numbers: &[usize]) -> Result<Vec<usize>, WordFault<'s>>
+    ensures { Gives (λ packages. packages.items) result (spec.some_of numbers.now) }
+{
+    if numbers.is_empty() {
+        return Err(WordFault::NoPackages);
+    }
+    Ok(Vec::from_slice(alloc, numbers)?)
+}
+
+/// Returns the numbers of the packages that `choice` selects, in the order of the workspace or of the words; NoPackages if that
+/// is none.
 pub(crate) fn selected<'s>(
     alloc: Global,
     workspace: &Workspace<'_>,
@@ -167,8 +297,8 @@ pub(crate) fn selected<'s>(
     // (calls named facts() carry the invariant into the proof)
     workspace.facts();
     match choice {
-        PackageChoice::Default => Ok(Vec::from_slice(alloc, workspace.default_members())?),
-        PackageChoice::Workspace => Ok(Vec::from_slice(alloc, workspace.members())?),
-        PackageChoice::Named(words) => packages_of_words(alloc, workspace, words),
+        PackageChoice::Default => some_of(alloc, workspace.default_members()),
+        PackageChoice::Workspace => some_of(alloc, workspace.members()),
+        PackageChoice::Named(words) => selected_by_words(alloc, workspace, words),
     }
 }

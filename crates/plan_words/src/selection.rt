@@ -7,7 +7,8 @@ pub enum PackageChoice<'s> {
     Default,
     /// All members of the workspace.
     Workspace,
-    /// The packages that these words name, each by `NAME`, `NAME@VERSION` or an id.
+    /// The packages that these words name, each by `NAME`, `NAME@VERSION`, `NAME:VERSION` or an id, and the members whose names fit
+    /// these words.
     Named(&'s [&'s str]),
 }
 

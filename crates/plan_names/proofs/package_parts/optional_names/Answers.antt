@@ -1,5 +1,5 @@
 use Rattle.std.proofs.Common.{refl}
-use Rattle.plan_names.specs.Patterns.{fits}
+use Rattle.plan_words.specs.Patterns.{fits}
 use Rattle.plan_names.proofs.Once.{names_more}
 use Rattle.plan_names.proofs.package_parts.optional_names.Goals as goal
 

@@ -3,7 +3,7 @@ use Rattle.std.specs.List.{filter}
 use Rattle.cargo_workspaces.specs.Views.{feature_text}
 use Rattle.cargo_workspaces.specs.Workspaces.{FeatureText}
 use Rattle.plan_names.specs.Names as spec
-use Rattle.plan_names.specs.Patterns.{fits}
+use Rattle.plan_words.specs.Patterns.{fits}
 use Rattle.plan_names.specs.Views.{named_text}
 use Rattle.plan_names.proofs.package_parts.push_features.Given as goal
 

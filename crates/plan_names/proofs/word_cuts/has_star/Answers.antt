@@ -2,7 +2,7 @@ use Rattle.std.proofs.Common.{◌∙◌, ap, sym, lit<}
 use Rattle.std.specs.List.{list_any}
 use Rattle.std.proofs.lemmas.Str.Pattern.{contains_char}
 use Rattle.cargo_workspaces.specs.Workspaces.{Text}
-use Rattle.plan_names.specs.Patterns.{is_star}
+use Rattle.plan_words.specs.Patterns.{is_star}
 use Rattle.plan_names.specs.inner.Cuts.{cut_text}
 use Rattle.plan_names.proofs.Cuts.{contains_is, cut_is, no_cut, whole_name}
 use Rattle.plan_names.proofs.word_cuts.has_star.Goals as goal

@@ -8,7 +8,7 @@ use Rattle.std.proofs.lemmas.Bool.{eqb-true, eq-eqb, cases_lt}
 use Rattle.std.proofs.lemmas.List.{length-drop}
 use Rattle.std.proofs.Math.Seq.{drop-append_seam, drop-nil}
 use Rattle.cargo_workspaces.specs.Workspaces.{Text}
-use Rattle.plan_names.specs.Patterns.{begins_and, ends_of, fits, is_star}
+use Rattle.plan_words.specs.Patterns.{begins_and, ends_of, fits, is_star}
 
 pub never : false ≡ true → ⊥
 never e = cc

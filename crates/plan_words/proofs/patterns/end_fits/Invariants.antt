@@ -2,8 +2,8 @@ use Rattle.std.proofs.Common.{◌≡◌, length}
 use denote.Text.{Utf8}
 use denote.Shadow.{shadow}
 use Rattle.std.specs.List.{list_any}
-use Rattle.plan_names.specs.Patterns.{ends_of, fits}
-use Rattle.plan_names.proofs.patterns.end_fits.Given as goal
+use Rattle.plan_words.specs.Patterns.{ends_of, fits}
+use Rattle.plan_words.proofs.patterns.end_fits.Given as goal
 
 abbrev pub invariant-loop-part : goal.invariant-loop-part
 invariant-loop-part l =

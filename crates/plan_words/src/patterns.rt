@@ -1,7 +1,7 @@
 //! Patterns of names.
 ghost use Rattle.std.specs.Prelude.{◌≡◌};
 ghost use Rattle.std.specs.List.{list_any};
-ghost use Rattle.plan_names.specs.Patterns as spec;
+ghost use Rattle.plan_words.specs.Patterns as spec;
 
 /// Returns whether one of the ends of `text`, which may be the whole text, fits `pattern`.
 fn end_fits(pattern: &str, text: &str) -> bool
@@ -20,8 +20,8 @@ fn end_fits(pattern: &str, text: &str) -> bool
     text_left.ends_with(pattern_left)
 }
 
-/// Returns whether `text` fits `pattern`, in which a star stands for any text.
-pub(crate) fn fits(pattern: &str, text: &str) -> bool
+/// Returns whether `text` fits `pattern`, in which a star stands for any text, also for none. Other characters stand for themselves.
+pub fn fits(pattern: &str, text: &str) -> bool
     ensures { result ≡ spec.fits pattern.now text.now }
 {
     match pattern.split_once('*') {

@@ -1,9 +1,9 @@
 use Rattle.std.proofs.Common.{◌≡◌, ◌∙◌, ◌++◌, ◌∷◌, ap, sym, lit<, Some, None}
 use Rattle.std.proofs.lemmas.Str.Pattern.{split_parts}
 use Rattle.cargo_workspaces.specs.Workspaces.{Text}
-use Rattle.plan_names.specs.Patterns as spec
-use Rattle.plan_names.proofs.Fits.{fits_apart, fits_front, fits_plain}
-use Rattle.plan_names.proofs.patterns.fits.Goals as goal
+use Rattle.plan_words.specs.Patterns as spec
+use Rattle.plan_words.proofs.PatternFits.{fits_apart, fits_front, fits_plain}
+use Rattle.plan_words.proofs.patterns.fits.Goals as goal
 
 pub returns-in-Some-strip_prefix : goal.returns-in-Some-strip_prefix
 returns-in-Some-strip_prefix c =

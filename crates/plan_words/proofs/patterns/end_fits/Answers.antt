@@ -2,9 +2,9 @@ use Rattle.std.proofs.Common.{rules, arith, ◌∙◌, ap, sym, lit<, Some, None
 use Rattle.std.specs.List.{list_any}
 use Rattle.std.proofs.lemmas.Str.Pattern.{ends_text, split_parts}
 use Rattle.cargo_workspaces.specs.Workspaces.{Text}
-use Rattle.plan_names.specs.Patterns.{ends_of, fits}
-use Rattle.plan_names.proofs.Fits.{after_first_place, last_part, without_place}
-use Rattle.plan_names.proofs.patterns.end_fits.Goals as goal
+use Rattle.plan_words.specs.Patterns.{ends_of, fits}
+use Rattle.plan_words.proofs.PatternFits.{after_first_place, last_part, without_place}
+use Rattle.plan_words.proofs.patterns.end_fits.Goals as goal
 
 pub returns-in-None : goal.returns-in-None
 returns-in-None c =
