@@ -2,7 +2,8 @@
 //!
 //! Each command answers a question about one build, as `plan` and `why` do; `diff` compares two. The answer, and the text of `--help`,
 //! go to standard output; the exit status of a negative answer is 1. A fault is one line on standard error, or `clap`'s text about the
-//! words; the exit status is then 2. A pipe that is closed at its other end is no fault: the status is that of the answer.
+//! words; the exit status is then 2. Control characters of words and files are escaped in all of these. A pipe that is closed at its
+//! other end is no fault: the status is that of the answer.
 //! `feats --version` prints the version, and whether the program is proved.
 #![tactic(auto)]
 
@@ -18,6 +19,7 @@ use feats_files::{
 };
 use feats_tool::{PlanFiles, command_arguments, platform_file, run};
 use feats_words::{CommandArguments, PlatformWord, Question, Request, ResolverSource, parse};
+use shown_texts::escaped;
 use std::alloc::{AllocError, Global};
 use std::fs::File;
 use std::io::ErrorKind;
@@ -264,29 +266,84 @@ fn help(rt: &HostRuntime, error: &Error) -> Result<bool, Fault> {
     write_bytes(rt, text.as_bytes())
 }
 
+/// Returns `message` with its control characters escaped. A line feed stays if two spaces follow it: so begin the lines of a list.
+fn shown_message(alloc: Global, message: &str) -> Result<String, AllocError> {
+    let mut shown = String::new(alloc);
+    let mut is_first = true;
+    for part in message.split("\n  ") {
+        let part = escaped(alloc, part)?;
+        if !is_first {
+            shown.push_str("\n  ")?;
+        }
+        shown.push_str(part.as_str())?;
+        is_first = false;
+    }
+    Ok(shown)
+}
+
+/// Returns the line, or the lines, for `fault`.
+fn message_of(alloc: Global, fault: &Fault) -> Result<String, AllocError> {
+    let message = format!(in alloc; "{fault}")?;
+    shown_message(alloc, message.as_str())
+}
+
+/// Writes the line for `fault` to standard error. A failed write there can't be reported anywhere.
+fn say(rt: &HostRuntime, fault: &Fault) {
+    match message_of(rt.alloc(), fault) {
+        Ok(message) => {
+            let _ = eprintln!(rt; "feats: {message}");
+        }
+        Err(_) => {
+            let _ = eprintln!(rt; "feats: out of memory");
+        }
+    }
+}
+
 /// Returns the exit status of a run that ended so, where an answer may be negative, and says the fault.
 fn ended(rt: &HostRuntime, outcome: Result<bool, Fault>) -> ExitCode {
     match outcome {
         Ok(false) => ExitCode::SUCCESS,
         Ok(true) => ExitCode::from(1),
         Err(fault) => {
-            let _ = eprintln!(rt; "feats: {fault}");
+            say(rt, &fault);
             ExitCode::from(2)
         }
     }
 }
 
-/// Returns the exit status for words that ask for help, or are mistaken, and says so.
-fn unparsed(rt: &HostRuntime, error: &Error) -> ExitCode {
+/// Returns `words` with their control characters escaped.
+fn shown_words(alloc: Global, words: &[&str]) -> Result<Vec<String>, AllocError> {
+    let mut shown = Vec::with_capacity(alloc, words.len())?;
+    for word in words {
+        shown.push(escaped(alloc, word)?)?;
+    }
+    Ok(shown)
+}
+
+/// Prints the mistake `error` in `words`. The words are parsed once more with their control characters escaped, for the words in the text.
+fn print_mistake(rt: &HostRuntime, words: &[&str], error: &Error) -> Result<(), AllocError> {
+    let owned = shown_words(rt.alloc(), words)?;
+    let shown = texts_of(rt.alloc(), &owned)?;
+    // A failed write to standard error can't be reported anywhere.
+    let _ = match parse(rt.alloc(), &shown) {
+        Err(error) => error.print(rt),
+        Ok(_) => error.print(rt),
+    };
+    Ok(())
+}
+
+/// Returns the exit status for `words`, which ask for help, or are mistaken, and says so.
+fn unparsed(rt: &HostRuntime, words: &[&str], error: &Error) -> ExitCode {
     if error.kind() == MistakeKind::OutOfMemory {
         return ended(rt, Err(Fault::Memory));
     }
     if !error.use_stderr() {
         return ended(rt, help(rt, error));
     }
-    // A failed write to standard error can't be reported anywhere.
-    let _ = error.print(rt);
-    ExitCode::from(2)
+    match print_mistake(rt, words, error) {
+        Ok(()) => ExitCode::from(2),
+        Err(_) => ended(rt, Err(Fault::Memory)),
+    }
 }
 
 /// Returns the request of `words`; the first word is the program's name. If `words` can't be parsed, prints the mistake and returns the
@@ -295,7 +352,7 @@ fn request_of<'a>(rt: &HostRuntime, words: &'a [&str]) -> Result<Request<'a>, Ex
     match parse(rt.alloc(), words) {
         Ok(Some(request)) => Ok(request),
         Ok(None) => Err(ended(rt, Err(no_command(rt.alloc())))),
-        Err(error) => Err(unparsed(rt, &error)),
+        Err(error) => Err(unparsed(rt, words, &error)),
     }
 }
 

@@ -6,6 +6,7 @@ use Rattle.feats_words.specs.declared.command_arguments.Format.{Format}
 use Rattle.feats_words.specs.declared.command_arguments.Format.TheVariants as format
 use Rattle.feats_answers.specs.AnswerTexts.{AnswerText, positive, negative}
 use Rattle.feats_answers.specs.Parts.{title_of}
+use Rattle.shown_texts.specs.Shown.{escaped}
 
 -- The texts that are shown of each item, in the order of the items.
 abbrev pub AreShown : {X : Type 0} → (X → List Text → Type 0) → List X → List Text → Type 0
@@ -24,9 +25,9 @@ abbrev pub separated : Format → List Text → Text
 separated form [] = []
 separated form (first ∷ more) = first ++ flat_map (after_gap form) more
 
--- The line that says no, with this end: there is no object.
+-- The line that says no, with this end: there is no object. Control characters in the title are escaped.
 abbrev pub no_line : Format → Text → Text → Text
-no_line format.Text title end = title ++ end
+no_line format.Text title end = escaped title ++ end
 no_line format.Json title end = []
 
 -- The answer of these texts. If there is none, it says no about what the word is called.

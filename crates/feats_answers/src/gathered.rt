@@ -10,6 +10,7 @@ use crate::parts::title_of;
 use cargo_workspaces::Workspace;
 use feats_words::Format;
 use plan_names::Named;
+use shown_texts::escaped;
 use std::alloc::{AllocError, Global};
 
 /// Appends each of `more`, after what is between two texts.
@@ -37,7 +38,7 @@ fn separated(alloc: Global, format: Format, texts: &[Vec<u8>]) -> Result<Vec<u8>
     Ok(text)
 }
 
-/// Returns the line that says no about `title`, with this end.
+/// Returns the line that says no about `title`, with this end. Control characters in the title are escaped.
 pub(crate) fn no_line(
     alloc: Global,
     format: Format,
@@ -48,7 +49,7 @@ pub(crate) fn no_line(
 {
     match format {
         Format::Text => {
-            let mut line = title;
+            let mut line = escaped(alloc, title.as_str())?;
             line.push_str(end)?;
             Ok(line.into_bytes())
         }

@@ -4,5 +4,6 @@ pub mod Files
 pub mod Messages
 pub mod Parts
 pub mod Platforms
+pub mod Showing
 pub mod WordMessages
 pub mod Writing

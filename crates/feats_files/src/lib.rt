@@ -7,6 +7,7 @@ mod files;
 mod message;
 mod opening;
 mod platforms;
+mod showing;
 mod word_messages;
 mod writing;
 
@@ -16,5 +17,6 @@ pub use files::{PlatformFile, resolver, target, target_platforms};
 pub use message::refused;
 pub use opening::{bytes_of, no_command, not_text, unopened};
 pub use platforms::{held_on, held_on_each, id_at};
+pub use showing::shown_answer;
 pub use word_messages::words_refused;
 pub use writing::{Ended, write_answer};

@@ -3,17 +3,17 @@ use Rattle.std.proofs.Common.{◌≡◌, ◌∙◌, subst, sym, Option, Some, No
 use Rattle.std.specs.Prelude.{IfSome, Bool}
 use Rattle.cargo_workspaces.specs.Workspaces.{Text}
 use Rattle.feats_answers.specs.AnswerTexts.{AnswerText}
-use Rattle.feats_tool.specs.Answers.{IsAnswer}
+use Rattle.feats_tool.specs.Answers.{IsShown}
 use Rattle.feats_plans.specs.Inputs.{InputsText}
 
 abbrev pub shown_as : Text → Bool → AnswerText
 shown_as text is_negative = record { content = text; is_negative = is_negative }
 
 pub is_shown : (inputs : InputsText) (left : Option Text) (bytes read : Text) (answer : AnswerText) (shown : Text) (is_negative : Bool)
-    → IfSome left (λ xs. bytes ≡ xs) → read ≡ bytes → IsAnswer inputs read answer → shown ≡ answer.content → is_negative ≡ answer.is_negative
-    → IfSome left (λ xs. IsAnswer inputs xs (shown_as shown is_negative))
+    → IfSome left (λ xs. bytes ≡ xs) → read ≡ bytes → IsShown inputs read answer → shown ≡ answer.content → is_negative ≡ answer.is_negative
+    → IfSome left (λ xs. IsShown inputs xs (shown_as shown is_negative))
 is_shown inputs None bytes read answer shown is_negative is same h said negative = tt
 is_shown inputs (Some xs) bytes read answer shown is_negative is same h said negative =
-    let text : IsAnswer inputs read (shown_as shown answer.is_negative) = subst (λ t. IsAnswer inputs read (shown_as t answer.is_negative)) (sym said) h in
-    let both : IsAnswer inputs read (shown_as shown is_negative) = subst (λ b. IsAnswer inputs read (shown_as shown b)) (sym negative) text in
-    subst (λ ys. IsAnswer inputs ys (shown_as shown is_negative)) (same ∙ is) both
+    let text : IsShown inputs read (shown_as shown answer.is_negative) = subst (λ t. IsShown inputs read (shown_as t answer.is_negative)) (sym said) h in
+    let both : IsShown inputs read (shown_as shown is_negative) = subst (λ b. IsShown inputs read (shown_as shown b)) (sym negative) text in
+    subst (λ ys. IsShown inputs ys (shown_as shown is_negative)) (same ∙ is) both

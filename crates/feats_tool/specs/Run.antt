@@ -6,13 +6,13 @@ use Rattle.feats_files.specs.declared.fault.Fault.{Fault}
 use Rattle.feats_files.specs.declared.fault.Fault.TheVariants as fault
 use Rattle.feats_files.specs.declared.writing.Ended.{Ended}
 use Rattle.feats_files.specs.Writing.{Writes}
-use Rattle.feats_tool.specs.Answers.{IsAnswer, IsNoAnswer}
+use Rattle.feats_tool.specs.Answers.{IsNoAnswer, IsShown}
 use Rattle.feats_plans.specs.Inputs.{InputsText, unread_message}
 
--- THE END of a run over the bytes `left` that has an answer: its text, whether it is negative, and the part of it that was written.
+-- THE END of a run over the bytes `left` that has an answer: its text as it is shown, whether it is negative, and the part of it that was written.
 pub record HasAnswer (inputs : InputsText) (ended : Ended) (left old new : Option Text) : Type 0 where
   pub text : Text
-  pub is_answer : IfSome left (λ bytes. IsAnswer inputs bytes (record { content = text; is_negative = ended.is_negative }))
+  pub is_answer : IfSome left (λ bytes. IsShown inputs bytes (record { content = text; is_negative = ended.is_negative }))
   pub written : Writes ended.is_written text old new
 
 -- Why a run over the bytes `left` has no answer: a read failed, or the bytes have none.

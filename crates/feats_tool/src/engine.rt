@@ -4,15 +4,16 @@ ghost use Rattle.std.specs.Io.KnownBytes.{IsAtEnd};
 ghost use Rattle.feats_plans.specs.Inputs.{inputs_text};
 ghost use Rattle.feats_tool.specs.Run.{Ends, HasAnswer};
 
-use crate::answers::answer;
+use crate::answers::shown;
 use byte_devices::{ByteInput, ByteOutput};
 use feats_files::{Ended, Fault, bytes_of, write_answer};
 use feats_plans::PlanFiles;
 use feats_words::CommandArguments;
 use std::alloc::Global;
 
-/// Reads the document from `reader` to its end, and writes the answer for `arguments` and `files` to `writer`. Returns whether the
-/// answer is negative, and whether it was written: the first write that fails ends the run.
+/// Reads the document from `reader` to its end, and writes the answer for `arguments` and `files` to `writer`. Control characters in it
+/// are escaped, but for the line feeds at the ends of its lines. Returns whether the answer is negative, and whether it was written: the
+/// first write that fails ends the run.
 ///
 /// Writes nothing before the whole answer is known. Returns the first fault: a failed read, a file at fault, or that there is no answer.
 pub fn run<R: ByteInput, W: ByteOutput>(
@@ -26,7 +27,7 @@ pub fn run<R: ByteInput, W: ByteOutput>(
     requires writer_fresh { W.failed writer.old ≡ false }
     // Nothing is left to read.
     ensures end { OnOk result (IsAtEnd (R.left reader.new)) }
-    // There is an answer for all bytes of the reader. It was written, or a beginning of it.
+    // There is an answer for all bytes of the reader. It was written, or a beginning of it. No control character but the line feed is in it.
     ensures ok { IfOk result (λ ended. HasAnswer (inputs_text arguments.now files.now) ended (R.left reader.old) (W.held writer.old) (W.held writer.new)) }
     // The reader hasn't failed, and the writer only if the answer isn't written.
     ensures fresh { IfOk result (λ ended. (R.failed reader.new ≡ false) × (W.failed writer.new ≡ not ended.is_written)) }
@@ -34,6 +35,6 @@ pub fn run<R: ByteInput, W: ByteOutput>(
     ensures fault { IfErr result (λ fault. Ends (inputs_text arguments.now files.now) fault (R.left reader.old) (W.held writer.old) (W.held writer.new) (R.failed reader.new) (W.failed writer.new)) }
 {
     let bytes = bytes_of(alloc, reader, arguments.metadata)?;
-    let answer = answer(alloc, arguments, files, &bytes)?;
+    let answer = shown(alloc, arguments, files, &bytes)?;
     Ok(write_answer(writer, &answer.text, answer.is_negative))
 }

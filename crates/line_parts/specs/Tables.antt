@@ -1,5 +1,6 @@
 -- Tables of three columns.
 use Rattle.std.specs.Prelude.{ℕ, ◌-◌, List, [], ◌∷◌, ◌++◌, map, flat_map, length, replicate, max, codes}
+use Rattle.shown_texts.specs.Shown.{escaped}
 
 -- A row: the texts of its columns.
 pub record RowText : Type 0 where
@@ -31,5 +32,13 @@ line_end width second (c ∷ cs) = cell width second ++ c ∷ cs
 abbrev pub line_of : ℕ → ℕ → RowText → List ℕ
 line_of first second r = cell first r.first ++ (line_end second r.second r.third ++ 10 ∷ [])
 
+-- The lines of rows whose texts are as they are shown.
+abbrev pub lines_of : List RowText → List ℕ
+lines_of rows = flat_map (line_of (first_width rows) (second_width rows)) rows
+
+-- A row as it is shown: each control character is escaped, so a row is one line.
+abbrev pub shown_row : RowText → RowText
+shown_row r = record { first = escaped r.first; second = escaped r.second; third = escaped r.third }
+
 abbrev pub table_of : List RowText → List ℕ
-table_of rows = flat_map (line_of (first_width rows) (second_width rows)) rows
+table_of rows = lines_of (map shown_row rows)

@@ -3,9 +3,10 @@ ghost use Rattle.std.specs.Prelude.{◌≡◌, ◌++◌, ◌-◌, IfOk, OnOk, ma
 ghost use Rattle.line_parts.specs.Tables as spec;
 ghost use Rattle.line_parts.specs.Views.{row_text};
 
+use shown_texts::escaped;
 use std::alloc::{AllocError, Global};
 
-/// A row of a table: the texts of its columns.
+/// A row of a table: the texts of its columns. In a table their control characters are escaped.
 #[derive(Drop)]
 pub struct Row {
     pub first: String,
@@ -74,9 +75,34 @@ fn push_row(text: &mut String, row: &Row, first: usize, second: usize) -> Result
     text.push_str("\n")
 }
 
-/// Returns a line for each of `rows`. Columns are as wide as their widest text, and two spaces apart.
-pub fn table_of(alloc: Global, rows: &[Row]) -> Result<String, AllocError>
-    ensures { IfOk result (λ text. string_bytes text ≡ spec.table_of (map row_text rows.now)) }
+/// Returns `row`, with the control characters of its texts escaped.
+fn shown_row(alloc: Global, row: &Row) -> Result<Row, AllocError>
+    ensures { IfOk result (λ shown. row_text shown ≡ spec.shown_row (row_text row.now)) }
+{
+    let first = escaped(alloc, row.first.as_str())?;
+    let second = escaped(alloc, row.second.as_str())?;
+    let third = escaped(alloc, row.third.as_str())?;
+    Ok(Row {
+        first,
+        second,
+        third,
+    })
+}
+
+/// Returns each of `rows`, with the control characters of their texts escaped.
+fn shown_rows(alloc: Global, rows: &[Row]) -> Result<Vec<Row>, AllocError>
+    ensures { IfOk result (λ shown. map row_text shown.items ≡ map spec.shown_row (map row_text rows.now)) }
+{
+    let mut shown = Vec::with_capacity(alloc, rows.len())?;
+    for row in rows {
+        shown.push(shown_row(alloc, row)?)?;
+    }
+    Ok(shown)
+}
+
+/// Returns a line for each of `rows`, whose texts are as they are shown.
+fn lines_of(alloc: Global, rows: &[Row]) -> Result<String, AllocError>
+    ensures { IfOk result (λ text. string_bytes text ≡ spec.lines_of (map row_text rows.now)) }
 {
     let first = first_width(rows);
     let second = second_width(rows);
@@ -85,4 +111,13 @@ pub fn table_of(alloc: Global, rows: &[Row]) -> Result<String, AllocError>
         push_row(&mut text, row, first, second)?;
     }
     Ok(text)
+}
+
+/// Returns a line for each of `rows`. Control characters in them are escaped, the line feed too. Columns are as wide as their widest text,
+/// and two spaces apart.
+pub fn table_of(alloc: Global, rows: &[Row]) -> Result<String, AllocError>
+    ensures { IfOk result (λ text. string_bytes text ≡ spec.table_of (map row_text rows.now)) }
+{
+    let shown = shown_rows(alloc, rows)?;
+    lines_of(alloc, &shown)
 }

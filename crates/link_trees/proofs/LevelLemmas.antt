@@ -3,8 +3,8 @@ use Rattle.std.proofs.Common.{◌≡◌, ◌∙◌, ap, sym, refl, subst, append
 use Rattle.std.proofs.lemmas.Bool.{lt-ltb}
 use Rattle.std.proofs.lemmas.List.{drop_more, length_push, take-append-drop, take-append-le, take_all}
 use Rattle.link_trees.specs.Branches.{AreTrees, StepsFrom, goes_on}
-use Rattle.link_trees.specs.Lines.{bar, gap, line_of, lines_from, levels, marks, star, tee}
-use Rattle.link_trees.specs.Titles.{TitleText, title_at}
+use Rattle.link_trees.specs.Lines.{bar, gap, line_of, lines_from, levels, marks, shown_title, star, tee}
+use Rattle.link_trees.specs.Titles.{TitleText}
 use Rattle.link_trees.specs.inner.Levels.{above, line_by, marks_by, with_level}
 use Rattle.link_trees.specs.declared.trees.Branch.{Branch}
 
@@ -87,7 +87,7 @@ step_fits b after kept new fits last is = record {
 line_is : (titles : List TitleText) (first : Bool) (b : Branch) (after : List Branch) (kept : List Bool) → FitLevels kept (b ∷ after) → b.is_last ≡ not (goes_on b.depth after)
     → line_by titles first b kept ≡ line_of titles first b after
 line_is titles first b after kept fits last =
-    ap (λ z. gap first b.depth ++ (z ++ (title_at titles b.node ++ (star b.is_again ++ 10 ∷ [])))) (marks_are b.depth fits.room b after kept refl fits.steps.0 fits.within fits.are_levels last)
+    ap (λ z. gap first b.depth ++ (z ++ (shown_title titles b.node ++ (star b.is_again ++ 10 ∷ [])))) (marks_are b.depth fits.room b after kept refl fits.steps.0 fits.within fits.are_levels last)
 
 split_at : (branches : List Branch) (i : ℕ) (d : Branch) → i < length branches → branches ≡ take i branches ++ get_or branches i d ∷ drop (i + 1) branches
 split_at branches i d h = sym (take-append-drop i branches) ∙ ap (λ z. take i branches ++ z) (drop_more branches i d h)

@@ -3,6 +3,7 @@ use Rattle.std.specs.Prelude.{ℕ, zero, suc, List, [], ◌∷◌, ◌++◌, fla
 use Rattle.link_trees.specs.Branches.{goes_on}
 use Rattle.link_trees.specs.Titles.{Text, TitleText, title_at}
 use Rattle.link_trees.specs.declared.trees.Branch.{Branch}
+use Rattle.shown_texts.specs.Shown.{escaped}
 
 -- The mark of a level above a branch, which goes on after it or doesn't.
 abbrev pub bar : Bool → Text
@@ -31,8 +32,12 @@ star again = if again then codes " (*)" else []
 abbrev pub gap : Bool → ℕ → Text
 gap first depth = if depth == 0 && not first then 10 ∷ [] else []
 
+-- The title of a node: control characters in it are escaped.
+abbrev pub shown_title : List TitleText → ℕ → Text
+shown_title titles node = escaped (title_at titles node)
+
 abbrev pub line_of : List TitleText → Bool → Branch → List Branch → Text
-line_of titles first b after = gap first b.depth ++ (marks b.depth after ++ (title_at titles b.node ++ (star b.is_again ++ 10 ∷ [])))
+line_of titles first b after = gap first b.depth ++ (marks b.depth after ++ (shown_title titles b.node ++ (star b.is_again ++ 10 ∷ [])))
 
 -- The lines of branches, of which the first is or isn't the first of all.
 abbrev pub lines_from : List TitleText → Bool → List Branch → Text

@@ -7,6 +7,7 @@ ghost use Rattle.link_trees.specs.inner.Levels.{above, line_by, marks_by, with_l
 
 use crate::titles::{Title, title_of};
 use crate::trees::Branch;
+use shown_texts::escaped;
 use std::alloc::{AllocError, Global};
 
 /// Appends the mark of a level that goes on or doesn't.
@@ -86,8 +87,22 @@ fn enter_level(levels: &mut Vec<bool>, branch: &Branch) -> Result<(), AllocError
     Ok(())
 }
 
+/// Appends the title of `node`, with its control characters escaped.
+fn push_title(
+    alloc: Global,
+    text: &mut String,
+    titles: &[Title<'_>],
+    node: usize,
+) -> Result<(), AllocError>
+    ensures { OnOk result (string_bytes text.new ≡ string_bytes text.old ++ spec.shown_title (map title_text titles.now) node) }
+{
+    let title = escaped(alloc, title_of(titles, node))?;
+    text.push_str(title.as_str())
+}
+
 /// Appends the line of `branch`. `levels` are those of the branch before it, and then those of `branch`.
 fn push_line(
+    alloc: Global,
     text: &mut String,
     levels: &mut Vec<bool>,
     titles: &[Title<'_>],
@@ -100,13 +115,13 @@ fn push_line(
     leave_levels(levels, branch);
     push_gap(text, first, branch)?;
     push_marks(text, levels, branch)?;
-    text.push_str(title_of(titles, branch.node))?;
+    push_title(alloc, text, titles, branch.node)?;
     push_end(text, branch.is_again)?;
     enter_level(levels, branch)
 }
 
 /// Returns a line for each of `branches`, as `cargo tree` prints it: the marks of the levels, the title of the node, and ` (*)` if its
-/// links are shown above. An empty line is before each root but the first.
+/// links are shown above. An empty line is before each root but the first. Control characters in titles are escaped, the line feed too.
 pub fn branch_lines(
     alloc: Global,
     branches: &[Branch],
@@ -119,7 +134,7 @@ pub fn branch_lines(
     let mut levels = Vec::new(alloc);
     let mut first = true;
     for branch in branches {
-        push_line(&mut text, &mut levels, titles, first, branch)?;
+        push_line(alloc, &mut text, &mut levels, titles, first, branch)?;
         first = false;
     }
     Ok(text)

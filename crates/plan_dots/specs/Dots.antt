@@ -2,6 +2,7 @@
 use Rattle.std.specs.Prelude.{ℕ, ◌+◌, ◌==◌, List, [], ◌∷◌, ◌++◌, Bool, ◌||◌, if◌then◌else◌, flat_map, codes}
 use Rattle.std.specs.Fmt.{decimal}
 use Rattle.std.specs.List.{list_any}
+use Rattle.shown_texts.specs.Shown.{escaped as shown}
 
 abbrev pub Text : Type 0
 Text = List ℕ
@@ -24,8 +25,9 @@ is_special byte = (byte == 34) || (byte == 92)
 abbrev pub escaped : Text → Text
 escaped text = flat_map (λ byte. if is_special byte then 92 ∷ byte ∷ [] else byte ∷ []) text
 
+-- The text as it is shown: control characters in it are escaped.
 abbrev pub quoted : Text → Text
-quoted text = codes "\"" ++ escaped text ++ codes "\""
+quoted text = codes "\"" ++ escaped (shown text) ++ codes "\""
 
 -- `    n3 [label = "syn 1.0.107"];`
 abbrev pub node_line : ℕ → Text → Text

@@ -6,6 +6,7 @@ ghost use Rattle.plan_dots.specs.Dots as spec;
 ghost use Rattle.plan_dots.specs.Dots.{is_special};
 ghost use Rattle.plan_dots.specs.Views.{node_text};
 
+use shown_texts::escaped;
 use std::alloc::{AllocError, Global};
 
 /// A node of a graph.
@@ -60,12 +61,13 @@ fn push_escaped(text: &mut Vec<u8>, part: &[u8]) -> Result<(), AllocError>
     Ok(())
 }
 
-/// Appends `part` between quotes.
-fn push_quoted(text: &mut Vec<u8>, part: &str) -> Result<(), AllocError>
+/// Appends `part` between quotes, with its control characters escaped.
+fn push_quoted(alloc: Global, text: &mut Vec<u8>, part: &str) -> Result<(), AllocError>
     ensures { OnOk result (text.new.items ≡ text.old.items ++ spec.quoted part.now) }
 {
+    let shown = escaped(alloc, part)?;
     push_str(text, "\"")?;
-    push_escaped(text, part.as_bytes())?;
+    push_escaped(text, shown.as_bytes())?;
     push_str(text, "\"")
 }
 
@@ -81,7 +83,7 @@ fn push_node(
     push_str(text, "    n")?;
     push_number(alloc, text, number)?;
     push_str(text, " [label = ")?;
-    push_quoted(text, title)?;
+    push_quoted(alloc, text, title)?;
     push_str(text, "];\n")
 }
 
@@ -141,7 +143,7 @@ fn push_block(
     push_str(text, "  subgraph cluster_")?;
     push_number(alloc, text, cluster)?;
     push_str(text, " {\n    label = ")?;
-    push_quoted(text, label)?;
+    push_quoted(alloc, text, label)?;
     push_str(text, ";\n")?;
     push_nodes(alloc, text, cluster, nodes)?;
     push_str(text, "  }\n")

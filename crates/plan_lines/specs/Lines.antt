@@ -2,6 +2,7 @@
 use Rattle.std.specs.Prelude.{ℕ, ◌-◌, List, [], ◌∷◌, ◌++◌, map, filter, flat_map, length, replicate, max, nat_lt, Bool, unwrap_or, codes, if◌then◌else◌}
 use Rattle.std.specs.Str.{bytes_eq}
 use Rattle.cargo_workspaces.specs.Workspaces.{Text, PackageText}
+use Rattle.shown_texts.specs.Shown.{escaped}
 
 -- A package that is built: the name of its place, and the features with which it is built.
 pub record ShownText : Type 0 where
@@ -60,9 +61,13 @@ columns width label (f ∷ fs) = cell width label ++ flat_map spaced (f ∷ fs)
 abbrev pub label_columns : ℕ → RowText → Text
 label_columns width r = columns width r.label r.features
 
--- The line of a row: columns are two spaces apart.
+-- The columns of a row, two spaces apart.
+abbrev pub columns_of : ℕ → ℕ → RowText → Text
+columns_of places labels r = cell places r.place ++ (32 ∷ label_columns labels r)
+
+-- The line of a row: control characters in it are escaped.
 abbrev pub line_of : ℕ → ℕ → RowText → Text
-line_of places labels r = cell places r.place ++ (32 ∷ (label_columns labels r ++ 10 ∷ []))
+line_of places labels r = escaped (columns_of places labels r) ++ 10 ∷ []
 
 abbrev pub table_of : List RowText → Text
 table_of rows = flat_map (line_of (place_width rows) (label_width rows)) rows

@@ -4,10 +4,12 @@ ghost use Rattle.cargo_workspaces.specs.WorkspaceView.{workspace_text};
 ghost use Rattle.plan_lines.specs.Lines as spec;
 ghost use Rattle.plan_lines.specs.Views.{shown_text};
 ghost use Rattle.plan_lines.specs.inner.Rows.{row_text};
+ghost use Rattle.shown_texts.specs.Shown.{escaped as escaped_text};
 
 use crate::rows::{Row, rows_of};
 use crate::shown::Shown;
 use cargo_workspaces::Workspace;
+use shown_texts::escaped;
 use std::alloc::{AllocError, Global};
 
 /// Returns the larger number.
@@ -74,8 +76,38 @@ fn push_label(text: &mut String, row: &Row<'_, '_>, width: usize) -> Result<(), 
     }
 }
 
+/// Returns the columns of `row`, which have these widths.
+fn columns_of(
+    alloc: Global,
+    row: &Row<'_, '_>,
+    places: usize,
+    labels: usize,
+) -> Result<String, AllocError>
+    ensures { IfOk result (λ text. string_bytes text ≡ spec.columns_of places labels (row_text row.now)) }
+{
+    let mut text = String::new(alloc);
+    push_cell(&mut text, row.place, places)?;
+    text.push_str(" ")?;
+    push_label(&mut text, row, labels)?;
+    Ok(text)
+}
+
+/// Returns the columns of `row`, which have these widths, with their control characters escaped.
+fn shown_columns(
+    alloc: Global,
+    row: &Row<'_, '_>,
+    places: usize,
+    labels: usize,
+) -> Result<String, AllocError>
+    ensures { IfOk result (λ text. string_bytes text ≡ escaped_text (spec.columns_of places labels (row_text row.now))) }
+{
+    let columns = columns_of(alloc, row, places, labels)?;
+    escaped(alloc, columns.as_str())
+}
+
 /// Appends the line of `row`, in columns of these widths.
 fn push_row(
+    alloc: Global,
     text: &mut String,
     row: &Row<'_, '_>,
     places: usize,
@@ -83,9 +115,8 @@ fn push_row(
 ) -> Result<(), AllocError>
     ensures { OnOk result (string_bytes text.new ≡ string_bytes text.old ++ spec.line_of places labels (row_text row.now)) }
 {
-    push_cell(text, row.place, places)?;
-    text.push_str(" ")?;
-    push_label(text, row, labels)?;
+    let columns = shown_columns(alloc, row, places, labels)?;
+    text.push_str(columns.as_str())?;
     text.push_str("\n")
 }
 
@@ -97,13 +128,14 @@ fn table_of(alloc: Global, rows: &[Row<'_, '_>]) -> Result<String, AllocError>
     let labels = label_width(rows);
     let mut text = String::new(alloc);
     for row in rows {
-        push_row(&mut text, row, places, labels)?;
+        push_row(alloc, &mut text, row, places, labels)?;
     }
     Ok(text)
 }
 
 /// Returns a line for each of `units`, which are packages of `workspace`: its place, its name and version, with its source if
-/// several packages have both, and its features. The columns are as wide as their widest text.
+/// several packages have both, and its features. The columns are as wide as their widest text. Control characters are escaped, the line
+/// feed too.
 pub fn lines_of(
     alloc: Global,
     workspace: &Workspace<'_>,

@@ -3,6 +3,7 @@ use Rattle.std.specs.Prelude.{ℕ, [], ◌∷◌, ◌++◌, Bool, true, not, Opt
 use Rattle.std.specs.Fmt.{decimal}
 use Rattle.policies.specs.Lines.{Text}
 use Rattle.policies.specs.Rules.{KindText, RuleText, deny, deny_duplicates, require}
+use Rattle.shown_texts.specs.Shown.{escaped}
 
 -- The end of a rule for one platform.
 abbrev pub platform_end : Option Text → Text
@@ -26,9 +27,9 @@ abbrev pub reason_end : Option Text → Text
 reason_end None = []
 reason_end (Some reason) = codes " (" ++ (reason ++ codes ")")
 
--- The place of a line in a file.
+-- The place of a line in a file. Control characters in the name of the file are escaped.
 abbrev pub place : Text → ℕ → Text
-place file line = file ++ (codes ":" ++ (decimal line ++ codes ": "))
+place file line = escaped file ++ (codes ":" ++ (decimal line ++ codes ": "))
 
 -- The first line: the place of the rule, the rule, what breaks it, and the reason.
 abbrev pub first_line : Text → RuleText → Text

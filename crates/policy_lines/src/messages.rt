@@ -15,6 +15,7 @@ use feats_files::{Fault, id_at};
 use plan_names::{Named, Part};
 use policies::{PolicyFault, Problem};
 use policy_checks::{Build, CheckFault};
+use shown_texts::escaped;
 use std::alloc::{AllocError, Global};
 
 /// Returns the refusal with this message, or `Memory` if there is none.
@@ -32,7 +33,7 @@ fn place_of(alloc: Global, file: &str, line: usize) -> Result<String, AllocError
     ensures { IfOk result (λ text. string_bytes text ≡ place file.now line) }
 {
     let digits = digits_of(alloc, line)?;
-    let mut text = String::from_str(alloc, file)?;
+    let mut text = escaped(alloc, file)?;
     text.push_str(":")?;
     text.push_str(digits.as_str())?;
     text.push_str(": ")?;

@@ -6,6 +6,7 @@ ghost use Rattle.policies.specs.Views.{kind_text};
 ghost use Rattle.policy_lines.specs.Lines as spec;
 
 use policies::RuleKind;
+use shown_texts::escaped;
 use std::alloc::{AllocError, Global};
 
 /// Appends `part`.
@@ -22,7 +23,7 @@ pub(crate) fn digits_of(alloc: Global, number: usize) -> Result<String, AllocErr
     format!(in alloc; "{number}")
 }
 
-/// Appends the place of line `line` in `file`.
+/// Appends the place of line `line` in `file`. Control characters in the name of the file are escaped.
 pub(crate) fn push_place(
     alloc: Global,
     text: &mut Vec<u8>,
@@ -32,7 +33,8 @@ pub(crate) fn push_place(
     ensures { OnOk result (text.new.items ≡ text.old.items ++ spec.place file.now line) }
 {
     let digits = digits_of(alloc, line)?;
-    push(text, file)?;
+    let shown = escaped(alloc, file)?;
+    push(text, shown.as_str())?;
     push(text, ":")?;
     push(text, digits.as_str())?;
     push(text, ": ")

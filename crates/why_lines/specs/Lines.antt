@@ -7,6 +7,7 @@ use Rattle.why_lines.specs.Reasons.{reason_words}
 use Rattle.why_lines.specs.Relations.{is_shown}
 use Rattle.why_lines.specs.Settings.{SettingsText}
 use Rattle.plan_whys.specs.Steps.{WhyText}
+use Rattle.shown_texts.specs.Shown.{escaped}
 
 -- The texts of a line's columns.
 pub record RowText : Type 0 where
@@ -23,8 +24,16 @@ line_of width r = cell width r.label ++ (32 ∷ (r.reason ++ 10 ∷ []))
 abbrev pub label_width : List RowText → ℕ
 label_width rows = widest (map (λ r. r.label) rows)
 
+-- The lines of rows whose texts are as they are shown.
+abbrev pub lines_of : List RowText → Text
+lines_of rows = flat_map (line_of (label_width rows)) rows
+
+-- A row as it is shown: each control character is escaped, so a row is one line.
+abbrev pub shown_row : RowText → RowText
+shown_row r = record { label = escaped r.label; reason = escaped r.reason }
+
 abbrev pub table_of : List RowText → Text
-table_of rows = flat_map (line_of (label_width rows)) rows
+table_of rows = lines_of (map shown_row rows)
 
 -- A line for each step that is shown, in the order of the steps.
 abbrev pub why_lines : List PackageText → SettingsText → List WhyText → Text

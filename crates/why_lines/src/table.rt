@@ -16,6 +16,7 @@ use cargo_workspaces::Workspace;
 use plan_lines::names_of;
 use plan_rows::Platform;
 use plan_whys::WhyStep;
+use shown_texts::escaped;
 use std::alloc::{AllocError, Global};
 
 /// Returns the larger number.
@@ -57,9 +58,29 @@ fn push_row(text: &mut String, row: &Row, width: usize) -> Result<(), AllocError
     text.push_str("\n")
 }
 
-/// Returns the lines of `rows`.
-pub(crate) fn table_of(alloc: Global, rows: &[Row]) -> Result<String, AllocError>
-    ensures { IfOk result (λ text. string_bytes text ≡ spec.table_of (map row_text rows.now)) }
+/// Returns `row`, with the control characters of its texts escaped.
+fn shown_row(alloc: Global, row: &Row) -> Result<Row, AllocError>
+    ensures { IfOk result (λ shown. row_text shown ≡ spec.shown_row (row_text row.now)) }
+{
+    let label = escaped(alloc, row.label.as_str())?;
+    let reason = escaped(alloc, row.reason.as_str())?;
+    Ok(Row { label, reason })
+}
+
+/// Returns each of `rows`, with the control characters of their texts escaped.
+fn shown_rows(alloc: Global, rows: &[Row]) -> Result<Vec<Row>, AllocError>
+    ensures { IfOk result (λ shown. map row_text shown.items ≡ map spec.shown_row (map row_text rows.now)) }
+{
+    let mut shown = Vec::with_capacity(alloc, rows.len())?;
+    for row in rows {
+        shown.push(shown_row(alloc, row)?)?;
+    }
+    Ok(shown)
+}
+
+/// Returns the lines of `rows`, whose texts are as they are shown.
+fn lines_of(alloc: Global, rows: &[Row]) -> Result<String, AllocError>
+    ensures { IfOk result (λ text. string_bytes text ≡ spec.lines_of (map row_text rows.now)) }
 {
     let width = label_width(rows);
     let mut text = String::new(alloc);
@@ -67,6 +88,14 @@ pub(crate) fn table_of(alloc: Global, rows: &[Row]) -> Result<String, AllocError
         push_row(&mut text, row, width)?;
     }
     Ok(text)
+}
+
+/// Returns the lines of `rows`. Control characters in them are escaped, the line feed too.
+pub(crate) fn table_of(alloc: Global, rows: &[Row]) -> Result<String, AllocError>
+    ensures { IfOk result (λ text. string_bytes text ≡ spec.table_of (map row_text rows.now)) }
+{
+    let shown = shown_rows(alloc, rows)?;
+    lines_of(alloc, &shown)
 }
 
 /// Returns the lines of `steps`.
@@ -103,7 +132,8 @@ fn each_by<P: Platform>(
 }
 
 /// Returns a line for each of `steps`, which are those of an explanation in `workspace`: the label of its spot, and the reason why it
-/// is on, in words. Steps at command features aren't shown. The labels are a column as wide as the widest.
+/// is on, in words. Steps at command features aren't shown. The labels are a column as wide as the widest. Control characters are escaped,
+/// the line feed too.
 pub fn why_lines<P: Platform>(
     alloc: Global,
     workspace: &Workspace<'_>,

@@ -29,7 +29,7 @@ fn off_line_of(alloc: Global, name: &str) -> Result<Vec<u8>, AllocError>
     ensures { IfOk result (λ text. text.items ≡ off_line name.now) }
 {
     let mut text = Vec::new(alloc);
-    push_off(&mut text, name)?;
+    push_off(alloc, &mut text, name)?;
     Ok(text)
 }
 

@@ -4,6 +4,7 @@ use Rattle.cargo_workspaces.specs.Workspaces.{Text}
 use Rattle.plan_widenings.specs.declared.widening.Widening.{Widening}
 use Rattle.plan_widenings.specs.declared.widening.Widening.TheVariants as widening
 use Rattle.plan_widenings.specs.Widenings.{widenings}
+use Rattle.shown_texts.specs.Shown.{escaped}
 
 -- The feature is on, with the lines that explain it; it is off; or there is no plan, with the message why.
 pub data SaidText : Type 0 where
@@ -44,8 +45,9 @@ closing _ _ = []
 abbrev pub widening_lines : Widening → SaidText → Text
 widening_lines v said = heading v ++ (said_lines said ++ closing v said)
 
+-- Control characters in the name are escaped.
 abbrev pub off_line : Text → Text
-off_line name = name ++ codes " is off\n"
+off_line name = escaped name ++ codes " is off\n"
 
 -- THE LINES of an answer about the feature `name`, by what is said of each widening.
 abbrev pub why_not_lines : Text → (Widening → SaidText) → Text

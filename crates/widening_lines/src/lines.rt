@@ -6,7 +6,8 @@ ghost use Rattle.widening_lines.specs.SaidView.{said_text};
 use crate::names::heading;
 use crate::said::Said;
 use plan_widenings::Widening;
-use std::alloc::AllocError;
+use shown_texts::escaped;
+use std::alloc::{AllocError, Global};
 
 /// Appends `part`.
 fn push(text: &mut Vec<u8>, part: &str) -> Result<(), AllocError>
@@ -69,11 +70,12 @@ fn push_closing(text: &mut Vec<u8>, widening: Widening, said: Said<'_>) -> Resul
     }
 }
 
-/// Appends the line that begins an answer about `name`.
-pub fn push_off(text: &mut Vec<u8>, name: &str) -> Result<(), AllocError>
+/// Appends the line that begins an answer about `name`. Control characters in the name are escaped.
+pub fn push_off(alloc: Global, text: &mut Vec<u8>, name: &str) -> Result<(), AllocError>
     ensures { OnOk result (text.new.items ≡ text.old.items ++ spec.off_line name.now) }
 {
-    push(text, name)?;
+    let name = escaped(alloc, name)?;
+    push(text, name.as_str())?;
     push(text, " is off\n")
 }
 

@@ -1,7 +1,7 @@
 -- The levels above a branch, as a list that grows and shrinks.
 use Rattle.std.specs.Prelude.{ℕ, zero, suc, ◌-◌, List, [], ◌∷◌, ◌++◌, flat_map, take, Bool, not}
-use Rattle.link_trees.specs.Lines.{bar, gap, star, tee}
-use Rattle.link_trees.specs.Titles.{Text, TitleText, title_at}
+use Rattle.link_trees.specs.Lines.{bar, gap, shown_title, star, tee}
+use Rattle.link_trees.specs.Titles.{Text, TitleText}
 use Rattle.link_trees.specs.declared.trees.Branch.{Branch}
 
 -- The levels above a branch, of those of the branch before it.
@@ -19,4 +19,4 @@ marks_by zero levels last = []
 marks_by (suc level) levels last = flat_map bar levels ++ tee (not last)
 
 abbrev pub line_by : List TitleText → Bool → Branch → List Bool → Text
-line_by titles first b levels = gap first b.depth ++ (marks_by b.depth (above b.depth levels) b.is_last ++ (title_at titles b.node ++ (star b.is_again ++ 10 ∷ [])))
+line_by titles first b levels = gap first b.depth ++ (marks_by b.depth (above b.depth levels) b.is_last ++ (shown_title titles b.node ++ (star b.is_again ++ 10 ∷ [])))

@@ -2,7 +2,7 @@ use Rattle.std.proofs.Common.{◌≡◌, ◌++◌, flat_map, map, drop}
 use Rattle.std.specs.String.{string_bytes}
 use Rattle.line_parts.specs.Tables.{line_of}
 use Rattle.line_parts.specs.Views.{row_text}
-use Rattle.line_parts.proofs.table.table_of.Given as goal
+use Rattle.line_parts.proofs.table.lines_of.Given as goal
 
 abbrev pub invariant-loop-row : goal.invariant-loop-row
 invariant-loop-row l =
