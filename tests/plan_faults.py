@@ -73,7 +73,7 @@ def word_faults():
     yield 'a host without a file', ['plan', '--metadata', '-', '--host', HOST], f'`{HOST}` {shape}'
     yield 'a target without a file', [*usual, '--target', WINDOWS], f'`{WINDOWS}` {shape}'
     yield 'a resolver', [*usual, '--resolver', '4'], "`4` isn't a version of the resolver: write 1, 2 or 3"
-    yield 'two resolvers', [*usual, '--resolver', '1', '--manifest', '{none}'], '--resolver and --manifest are both given: leave one out'
+    yield 'two resolvers', [*usual, '--resolver', '1', '--manifest', '{none}'], '--resolver and a manifest are both given: leave one out'
     yield 'a format', [*usual, '--format', 'xml'], "`xml` isn't a format: write text or json"
     for word in ('json', 'text', 'xml'):
         yield f'the format {word} of dot', ['dot', *usual[1:], '--format', word], '`dot` prints a graph for Graphviz: leave --format out'
@@ -113,9 +113,12 @@ def document_faults(document):
     yield 'a document that is not UTF-8', text + b'\xff', f"the document isn't UTF-8: make it by {METADATA}"
     yield 'a document without packages', changed(document, ['packages'], None), f'the document: packages: {lacks}'
     yield 'a package without a name', changed(document, ['packages', 0, 'name'], None), f'the document: packages[0].name: {lacks}'
-    yield 'a member that is no package', changed(document, ['workspace_members', 0], 'no'), 'the document: workspace_members: no package "no"'
+    yield 'a member that is no package', changed(document, ['workspace_members', 0], 'no'), 'the document: workspace_members: no package `no`'
+    yield 'an id that is repeated', changed(document, ['packages', 1, 'id'], document['packages'][0]['id']), 'the document: packages[1].id: repeated'
+    name = changed(document, ['packages', 0, 'features'], {'[x': []})
+    yield 'a feature that begins with a bracket', name, f'the document: package `{document["packages"][0]["id"]}`: feature `[x` begins with `[`; rename it'
     yield 'default members', changed(document, ['workspace_default_members'], None), f'the document: workspace_default_members: {lacks}'
-    yield 'a document made with --no-deps', (TOP / 'tests/documents/no-deps.json').read_bytes(), None
+    yield 'a document made with --no-deps', (TOP / 'tests/documents/no-deps.json').read_bytes(), 'the document: resolve: null; the document was made with --no-deps'
     spec = changed(document, ['packages', 0, 'dependencies', 0, 'target'], 'cfg(')
     yield 'a platform spec', spec, f'package {document["packages"][0]["id"]} names `cfg(`, which is no platform spec: write a triple or `cfg(..)`'
 

@@ -44,9 +44,14 @@ def platform_word(triple):
     return f'{triple}={TARGETS / triple}.cfg'
 
 
+def host_words():
+    """The words of `feats` that name the platform of the host."""
+    return ['--host', platform_word(HOST)]
+
+
 def basis_of(case):
     """The words of `feats` that name the platform of the host and the resolver."""
-    return ['--host', platform_word(HOST), '--resolver', case.resolver]
+    return [*host_words(), '--resolver', case.resolver]
 
 
 def selection_of(case):

@@ -13,7 +13,10 @@ ghost use Rattle.byte_devices.specs.StdDevices.{read_failed};
 use byte_devices::{ByteInput, FromReader, ToWriter};
 use clap::Error;
 use clap::error::ErrorKind as MistakeKind;
-use feats_comparisons::{Side, compared_words, one_format, run as run_difference};
+use feats_comparisons::{
+    SideInputs, compared_requests, compared_words, one_format, run as run_difference,
+    run_by_one_document,
+};
 use feats_files::{
     Ended, Fault, PlatformFile, bytes_of, no_command, not_text, refused, unopened, write_answer,
 };
@@ -54,11 +57,43 @@ fn document_bytes(rt: &HostRuntime, path: &str) -> Result<Vec<u8>, Fault> {
     file_bytes(rt, path)
 }
 
+/// Returns the bytes of the manifest or the cfg text at `path`, if it is one of `old`: a pipe can be read only once.
+fn known_bytes<'o>(old: Option<SideInputs<'o, '_, '_>>, path: &str) -> Option<&'o [u8]> {
+    let old = old?;
+    match old.arguments.resolver {
+        ResolverSource::Manifest(manifest) if manifest == path => return Some(&old.files.manifest),
+        _ => {}
+    }
+    if old.arguments.host.path == path {
+        return Some(&old.files.host.bytes);
+    }
+    for (word, file) in old.arguments.targets.iter().zip(&old.files.targets) {
+        if word.path == path {
+            return Some(&file.bytes);
+        }
+    }
+    None
+}
+
+/// Returns a copy of `bytes`.
+fn copied(alloc: Global, bytes: &[u8]) -> Result<Vec<u8>, AllocError> {
+    let mut copy = Vec::new(alloc);
+    copy.extend_from_slice(bytes)?;
+    Ok(copy)
+}
+
 /// Returns the bytes of the manifest from which the version of the resolver is read; none, if there is no manifest.
-fn manifest(rt: &HostRuntime, source: ResolverSource<'_>) -> Result<Vec<u8>, Fault> {
+fn manifest(
+    rt: &HostRuntime,
+    source: ResolverSource<'_>,
+    old: Option<SideInputs<'_, '_, '_>>,
+) -> Result<Vec<u8>, Fault> {
     match source {
         ResolverSource::Version(_) => Ok(Vec::new(rt.alloc())),
-        ResolverSource::Manifest(path) => file_bytes(rt, path),
+        ResolverSource::Manifest(path) => match known_bytes(old, path) {
+            Some(bytes) => Ok(copied(rt.alloc(), bytes)?),
+            None => file_bytes(rt, path),
+        },
     }
 }
 
@@ -77,7 +112,17 @@ fn policy(rt: &HostRuntime, arguments: &CommandArguments<'_>) -> Result<Vec<u8>,
 }
 
 /// Returns the platform of `word`, with the bytes of its file.
-fn platform<'f>(rt: &HostRuntime, word: PlatformWord<'f>) -> Result<PlatformFile<'f>, Fault> {
+fn platform<'f>(
+    rt: &HostRuntime,
+    word: PlatformWord<'f>,
+    old: Option<SideInputs<'_, '_, '_>>,
+) -> Result<PlatformFile<'f>, Fault> {
+    if let Some(bytes) = known_bytes(old, word.path) {
+        return Ok(PlatformFile {
+            triple: word.triple,
+            bytes: copied(rt.alloc(), bytes)?,
+        });
+    }
     let mut reader = opened(rt, word.path)?;
     platform_file(rt.alloc(), word, &mut reader)
 }
@@ -86,22 +131,24 @@ fn platform<'f>(rt: &HostRuntime, word: PlatformWord<'f>) -> Result<PlatformFile
 fn platforms<'f>(
     rt: &HostRuntime,
     words: &[PlatformWord<'f>],
+    old: Option<SideInputs<'_, '_, '_>>,
 ) -> Result<Vec<PlatformFile<'f>>, Fault> {
     let mut files = Vec::with_capacity(rt.alloc(), words.len())?;
     for word in words {
-        files.push(platform(rt, *word)?)?;
+        files.push(platform(rt, *word, old)?)?;
     }
     Ok(files)
 }
 
-/// Returns the files that `arguments` name, besides the document.
+/// Returns the files that `arguments` name, besides the document. For the new side of `diff`, `old` has those of the old one.
 fn plan_files<'f>(
     rt: &HostRuntime,
     arguments: &CommandArguments<'f>,
+    old: Option<SideInputs<'_, '_, '_>>,
 ) -> Result<PlanFiles<'f>, Fault> {
-    let manifest = manifest(rt, arguments.resolver)?;
-    let host = platform(rt, arguments.host)?;
-    let targets = platforms(rt, &arguments.targets)?;
+    let manifest = manifest(rt, arguments.resolver, old)?;
+    let host = platform(rt, arguments.host, old)?;
+    let targets = platforms(rt, &arguments.targets, old)?;
     let policy = policy(rt, arguments)?;
     Ok(PlanFiles {
         manifest,
@@ -155,75 +202,69 @@ fn write_bytes(rt: &HostRuntime, bytes: &[u8]) -> Result<bool, Fault> {
     outcome(ended, writer.is_closed())
 }
 
-/// Writes what differs between the builds of two sides. Returns whether anything does.
-fn write_difference(
+/// Compares the builds of `old` and `new`, which both have the document of `reader`. Returns whether they differ.
+fn compare_by_one<R: ByteInput>(
     rt: &HostRuntime,
-    old: Side<'_, '_, '_>,
-    new: Side<'_, '_, '_>,
-) -> Result<bool, Fault> {
+    old: SideInputs<'_, '_, '_>,
+    new: SideInputs<'_, '_, '_>,
+    reader: &mut R,
+) -> Result<bool, Fault>
+    requires { R.failed reader.old ≡ false }
+{
     let mut writer = ToWriter::new(io::writer(rt));
-    let ended = run_difference(rt.alloc(), old, new, &mut writer)?;
+    let ended = run_by_one_document(rt.alloc(), old, new, reader, &mut writer)?;
     outcome(ended, writer.is_closed())
 }
 
-/// Compares `old` with the side of `arguments` and `files`, whose document is at `path`. Returns whether the builds differ.
-fn compare_with(
+/// Compares the builds of `old` and `new`, which have the documents of `old_reader` and `new_reader`. Returns whether they differ.
+fn compare_by_two<R: ByteInput, S: ByteInput>(
     rt: &HostRuntime,
-    old: Side<'_, '_, '_>,
-    arguments: &CommandArguments<'_>,
-    files: &PlanFiles<'_>,
-    path: &str,
-) -> Result<bool, Fault> {
-    // Standard input can be read only once.
+    old: SideInputs<'_, '_, '_>,
+    new: SideInputs<'_, '_, '_>,
+    old_reader: &mut R,
+    new_reader: &mut S,
+) -> Result<bool, Fault>
+    requires old { R.failed old_reader.old ≡ false }
+    requires new { S.failed new_reader.old ≡ false }
+{
+    let mut writer = ToWriter::new(io::writer(rt));
+    let ended = run_difference(rt.alloc(), old, new, old_reader, new_reader, &mut writer)?;
+    outcome(ended, writer.is_closed())
+}
+
+/// Compares the builds of `old`, which has the document of `reader`, and `new`. Returns whether they differ.
+fn compare_with<R: ByteInput>(
+    rt: &HostRuntime,
+    old: SideInputs<'_, '_, '_>,
+    new: SideInputs<'_, '_, '_>,
+    reader: &mut R,
+) -> Result<bool, Fault>
+    requires { R.failed reader.old ≡ false }
+{
+    let path = new.arguments.metadata;
     if path == old.arguments.metadata {
-        let document = old.document;
-        let new = Side {
-            arguments,
-            files,
-            document,
-        };
-        return write_difference(rt, old, new);
+        return compare_by_one(rt, old, new, reader);
     }
-    let document = document_bytes(rt, path)?;
-    let new = Side {
-        arguments,
-        files,
-        document: &document,
-    };
-    write_difference(rt, old, new)
+    if path == "-" {
+        let mut new_reader = FromReader::new(rt.stdin());
+        return compare_by_two(rt, old, new, reader, &mut new_reader);
+    }
+    let mut new_reader = opened(rt, path)?;
+    compare_by_two(rt, old, new, reader, &mut new_reader)
 }
 
-/// Compares the builds of `arguments` by two documents: their own, and the one at `new`. Returns whether they differ.
-fn compare_documents(
-    rt: &HostRuntime,
-    arguments: &CommandArguments<'_>,
-    files: &PlanFiles<'_>,
-    new: &str,
-) -> Result<bool, Fault> {
-    let document = document_bytes(rt, arguments.metadata)?;
-    let old = Side {
-        arguments,
-        files,
-        document: &document,
-    };
-    compare_with(rt, old, arguments, files, new)
-}
-
-/// Compares the builds of `old` and `new`, with these files. Returns whether they differ.
+/// Compares the builds of `old` and `new`. Returns whether they differ.
 fn compare_sides(
     rt: &HostRuntime,
-    old: &CommandArguments<'_>,
-    old_files: &PlanFiles<'_>,
-    new: &CommandArguments<'_>,
-    new_files: &PlanFiles<'_>,
+    old: SideInputs<'_, '_, '_>,
+    new: SideInputs<'_, '_, '_>,
 ) -> Result<bool, Fault> {
-    let document = document_bytes(rt, old.metadata)?;
-    let side = Side {
-        arguments: old,
-        files: old_files,
-        document: &document,
-    };
-    compare_with(rt, side, new, new_files, new.metadata)
+    if old.arguments.metadata == "-" {
+        let mut reader = FromReader::new(rt.stdin());
+        return compare_with(rt, old, new, &mut reader);
+    }
+    let mut reader = opened(rt, old.arguments.metadata)?;
+    compare_with(rt, old, new, &mut reader)
 }
 
 /// Compares the builds of `old` and `new`. Returns whether they differ.
@@ -232,9 +273,17 @@ fn compare_arguments(
     old: &CommandArguments<'_>,
     new: &CommandArguments<'_>,
 ) -> Result<bool, Fault> {
-    let old_files = plan_files(rt, old)?;
-    let new_files = plan_files(rt, new)?;
-    compare_sides(rt, old, &old_files, new, &new_files)
+    let old_files = plan_files(rt, old, None)?;
+    let old = SideInputs {
+        arguments: old,
+        files: &old_files,
+    };
+    let new_files = plan_files(rt, new, Some(old))?;
+    let new = SideInputs {
+        arguments: new,
+        files: &new_files,
+    };
+    compare_sides(rt, old, new)
 }
 
 /// Compares the builds of two requests. Returns whether they differ.
@@ -245,13 +294,24 @@ fn compare_requests(rt: &HostRuntime, old: Request<'_>, new: Request<'_>) -> Res
     compare_arguments(rt, &old, &new)
 }
 
+/// Compares the builds of the two documents of `request`; `new` is the path of the second. Returns whether they differ.
+fn compare_documents(rt: &HostRuntime, request: &Request<'_>, new: &str) -> Result<bool, Fault> {
+    let requests = compared_requests(rt.alloc(), request, new)?;
+    compare_requests(rt, requests.old, requests.new)
+}
+
+/// Answers a request about one document. Returns whether the answer is negative.
+fn answer_one(rt: &HostRuntime, request: Request<'_>) -> Result<bool, Fault> {
+    let arguments = command_arguments(rt.alloc(), request)?;
+    let files = plan_files(rt, &arguments, None)?;
+    answer(rt, &arguments, &files)
+}
+
 /// Answers a request. Returns whether the answer is negative.
 fn answer_request(rt: &HostRuntime, request: Request<'_>) -> Result<bool, Fault> {
-    let arguments = command_arguments(rt.alloc(), request)?;
-    let files = plan_files(rt, &arguments)?;
-    match arguments.new {
-        Some(new) => compare_documents(rt, &arguments, &files, new),
-        None => answer(rt, &arguments, &files),
+    match request.new {
+        Some(new) => compare_documents(rt, &request, new),
+        None => answer_one(rt, request),
     }
 }
 

@@ -1,12 +1,9 @@
 -- The answer to `diff` about two sides, or the message why there is none.
-use Rattle.std.specs.Prelude.{Option}
 use Rattle.cargo_workspaces.specs.Workspaces.{Text}
 use Rattle.feats_differences.specs.feats_answers.AnswerTexts.{AnswerText}
 use Rattle.feats_comparisons.specs.Builds.{build_of}
 use Rattle.feats_comparisons.specs.Sides.{SideText}
 use Rattle.feats_differences.specs.Answers.{IsDiffAnswer}
-use Rattle.feats_files.specs.declared.writing.Ended.{Ended}
-use Rattle.feats_files.specs.Writing.{Writes}
 use Rattle.feats_plans.specs.Planned.{PlannedText}
 use Rattle.feats_plans.specs.Planning.{AfterPlanning, IsPlanningRefusal}
 
@@ -25,9 +22,3 @@ IsComparison old new answer = AfterPlanning old.inputs old.document (λ p. IsAns
 -- The message why there is none: the fault of the old side, and else that of the new one.
 abbrev pub IsNoComparison : SideText → SideText → Text → Type 0
 IsNoComparison old new message = IsPlanningRefusal old.inputs old.document (λ _. IsNewRefusal new) message
-
--- THE END of a run that compares two sides: the text of the answer, whether it is negative, and the part of it that was written.
-pub record HasComparison (old_side new_side : SideText) (ended : Ended) (old new : Option Text) : Type 0 where
-  pub text : Text
-  pub is_comparison : IsComparison old_side new_side (record { content = text; is_negative = ended.is_negative })
-  pub written : Writes ended.is_written text old new

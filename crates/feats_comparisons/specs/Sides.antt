@@ -5,3 +5,6 @@ use Rattle.feats_plans.specs.Inputs.{InputsText}
 pub record SideText : Type 0 where
   pub inputs : InputsText
   pub document : Text
+
+abbrev pub side : InputsText → Text → SideText
+side inputs document = record { inputs = inputs; document = document }

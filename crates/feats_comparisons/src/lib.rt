@@ -4,12 +4,16 @@
 mod builds;
 mod command_lines;
 mod comparing;
+mod documents;
+mod engine;
 mod formats;
 mod sides;
 mod visitors;
 
 pub use command_lines::{ComparedWords, compared_words};
-pub use comparing::{compare, run};
+pub use comparing::compare;
+pub use documents::{ComparedRequests, compared_requests};
+pub use engine::{run, run_by_one_document};
 pub use feats_differences::Answer;
 pub use formats::one_format;
-pub use sides::Side;
+pub use sides::{Side, SideInputs};

@@ -1,5 +1,5 @@
 -- The files that a command line names.
-use Rattle.std.specs.Prelude.{◌≡◌, ℕ, List, [], ◌∷◌, ◌⊎◌, Ok, Err, codes, IsUtf8, ⊤}
+use Rattle.std.specs.Prelude.{◌≡◌, ℕ, List, [], ◌∷◌, ◌⊎◌, Bool, true, false, IsFalse, Ok, Err, codes, IsUtf8, ⊤}
 use Rattle.std.specs.Fmt.{decimal}
 use Rattle.cargo_workspaces.specs.Workspaces.{Text}
 use Rattle.platform_specs.specs.Expressions.{Target}
@@ -26,9 +26,14 @@ abbrev pub IsVersion : SourceText → Text → Resolver → Type 0
 IsVersion (version_given version) bytes resolver = resolver ≡ version
 IsVersion (manifest_at path) bytes resolver = IsResolverOf bytes (Ok resolver)
 
+-- Whether the fault is that of an allocation, of which `IsResolverOf` claims nothing.
+abbrev pub is_memory : ManifestFault → Bool
+is_memory manifest.Memory = true
+is_memory _ = false
+
 -- The message is about the manifest with these bytes.
 abbrev pub IsManifestRefusal : Text → Text → Type 0
-IsManifestRefusal bytes message = (fault : ManifestFault) × IsResolverOf bytes (Err fault) × (message ≡ manifest_message fault)
+IsManifestRefusal bytes message = (fault : ManifestFault) × IsResolverOf bytes (Err fault) × IsFalse (is_memory fault) × (message ≡ manifest_message fault)
 
 -- The same, if a manifest is to choose the version.
 abbrev pub IsVersionRefusal : SourceText → Text → Text → Type 0

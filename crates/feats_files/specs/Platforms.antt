@@ -1,5 +1,5 @@
 -- The platform specs that hold on the platforms of a plan.
-use Rattle.std.specs.Prelude.{◌≡◌, ℕ, List, [], ◌∷◌, Bool, slice_get, codes, ⊤}
+use Rattle.std.specs.Prelude.{◌≡◌, ℕ, List, [], ◌∷◌, Bool, true, false, IsFalse, slice_get, codes, ⊤}
 use Rattle.std.specs.Option.{option_map_or}
 use Rattle.cargo_workspaces.specs.Workspaces.{Text, PackageText}
 use Rattle.platform_specs.specs.Expressions.{Target}
@@ -25,6 +25,11 @@ abbrev pub specs_message : List PackageText → PlatformFault → Text
 specs_message packages (Malformed p spec at) = joined (codes "package " ∷ id_at packages p ∷ codes " names `" ∷ spec.now ∷ codes "`, which is no platform spec: write a triple or `cfg(..)`" ∷ [])
 specs_message packages Memory = codes "out of memory"
 
+-- Whether the fault is that of an allocation, of which `IsFaultOf` claims nothing.
+abbrev pub is_memory : PlatformFault → Bool
+is_memory Memory = true
+is_memory _ = false
+
 -- The message is about the first of the specs that is malformed.
 abbrev pub IsSpecRefusal : List PackageText → List DeclaredText → Text → Type 0
-IsSpecRefusal packages specs message = (fault : PlatformFault) × IsFaultOf specs fault × (message ≡ specs_message packages fault)
+IsSpecRefusal packages specs message = (fault : PlatformFault) × IsFaultOf specs fault × IsFalse (is_memory fault) × (message ≡ specs_message packages fault)

@@ -7,7 +7,7 @@ use Rattle.feats_files.specs.Messages.{joined}
 abbrev pub words_message : Refusal → Text
 words_message (bad_platform word) = joined (codes "`" ∷ word ∷ codes "` isn't TRIPLE=CFGFILE: write the triple, `=` and the file, as x86_64-unknown-linux-gnu=host.cfg" ∷ [])
 words_message (bad_resolver word) = joined (codes "`" ∷ word ∷ codes "` isn't a version of the resolver: write 1, 2 or 3" ∷ [])
-words_message two_resolvers = joined (codes "--resolver and --manifest are both given: leave one out" ∷ [])
+words_message two_resolvers = joined (codes "--resolver and a manifest are both given: leave one out" ∷ [])
 words_message (bad_format word) = joined (codes "`" ∷ word ∷ codes "` isn't a format: write text or json" ∷ [])
 words_message graph_format = joined (codes "`dot` prints a graph for Graphviz: leave --format out" ∷ [])
 words_message (bad_depth word) = joined (codes "`" ∷ word ∷ codes "` isn't a depth: write a decimal number" ∷ [])

@@ -1,8 +1,8 @@
 //! The JSON document in a text.
-ghost use Rattle.std.specs.Prelude.{◌≡◌, [], ◌∷◌, None, Some, IfOk, IfErr, codes};
+ghost use Rattle.std.specs.Prelude.{◌≡◌, Some, IfOk, IfErr};
 ghost use Rattle.json.specs.Value.{value_view};
-ghost use Rattle.feats_files.specs.Documents.{document};
-ghost use Rattle.feats_files.specs.Messages.{IsRefused, Says, joined};
+ghost use Rattle.feats_files.specs.Documents.{IsNoDocument, document, not_json_message};
+ghost use Rattle.feats_files.specs.Messages.{IsRefused, Says};
 
 use crate::fault::Fault;
 use crate::message::refused;
@@ -15,7 +15,7 @@ const MAX_DEPTH: usize = 127;
 
 /// Returns the refusal of a document that isn't JSON.
 fn not_json(alloc: Global) -> Fault
-    ensures { IsRefused (joined (codes "the document isn't JSON: make it by `cargo metadata --format-version 1 --all-features`" ∷ [])) result }
+    ensures { IsRefused not_json_message result }
 {
     refused(
         alloc,
@@ -30,7 +30,7 @@ pub fn document_of<'t>(
     scratch: &'t mut Scratch,
 ) -> Result<Value<'t>, Fault>
     ensures document { IfOk result (λ it. document text.now ≡ Some (value_view it)) }
-    ensures fault { IfErr result (λ fault. Says fault (λ _. document text.now ≡ None)) }
+    ensures fault { IfErr result (λ fault. Says fault (IsNoDocument text.now)) }
 {
     let Ok(mut reader) = Reader::new(text, scratch) else {
         return Err(Fault::Memory);

@@ -77,6 +77,7 @@ pub fn resolver(
         ResolverSource::Version(version) => Ok(version),
         ResolverSource::Manifest(_) => match resolver_of_bytes(alloc, manifest) {
             Ok(version) => Ok(version),
+            Err(ManifestFault::Memory) => Err(Fault::Memory),
             Err(fault) => Err(manifest_refused(alloc, fault)),
         },
     }

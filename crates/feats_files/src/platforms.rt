@@ -54,6 +54,7 @@ pub fn held_on<'w>(
 {
     match held_specs(alloc, specs, target) {
         Ok(held) => Ok(held),
+        Err(PlatformFault::Memory) => Err(Fault::Memory),
         Err(fault) => Err(specs_refused(alloc, workspace, fault)),
     }
 }

@@ -31,7 +31,7 @@ pub fn words_refused(alloc: Global, fault: WordsFault<'_>) -> Fault
         ),
         WordsFault::TwoResolvers => refused(
             alloc,
-            &["--resolver and --manifest are both given: leave one out"],
+            &["--resolver and a manifest are both given: leave one out"],
         ),
         WordsFault::Format(word) => refused(
             alloc,

@@ -1,3 +1,4 @@
 pub mod Bases
+pub mod NoWorkspaces
 pub mod Says
 pub mod Stages

@@ -1,5 +1,6 @@
 pub mod Bases
 pub mod BasisView
+pub mod DocumentMessages
 pub mod Inputs
 pub mod Planned
 pub mod PlannedView

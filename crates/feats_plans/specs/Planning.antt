@@ -1,5 +1,5 @@
 -- From the arguments and the bytes of files to a plan with a property, or to the message why there is none.
-use Rattle.std.specs.Prelude.{◌≡◌, List, [], ◌∷◌, Bool, None, Ok, IsErr, IsSomeAnd, IsUtf8, codes}
+use Rattle.std.specs.Prelude.{◌≡◌, List, [], ◌∷◌, Bool, true, false, IsFalse, None, Ok, IsErrAnd, IsSomeAnd, IsUtf8, codes}
 use Rattle.json.specs.Json.{Json}
 use Rattle.cargo_workspaces.specs.Workspaces.{Text, WorkspaceText}
 use Rattle.numbered_workspaces.specs.Faults.{workspace_in}
@@ -10,10 +10,12 @@ use Rattle.cargo_plans.specs.plan_steps.Plans.{PlanText}
 use Rattle.cargo_plans.specs.Plans.{WordsText, IsPlanOf}
 use Rattle.cargo_plans.specs.Refusals.{IsRefusal}
 use Rattle.cargo_plans.specs.declared.fault.PlanFault.{PlanFault}
-use Rattle.feats_files.specs.Documents.{document}
+use Rattle.cargo_plans.specs.declared.fault.PlanFault.TheVariants as fault
+use Rattle.feats_files.specs.Documents.{document, not_json_message}
 use Rattle.feats_files.specs.Messages.{joined}
 use Rattle.feats_files.specs.Platforms.{AreHeldOnEach, IsSpecRefusal}
 use Rattle.feats_plans.specs.Bases.{BasisText, IsBasis, IsBasisRefusal}
+use Rattle.feats_plans.specs.DocumentMessages.{document_message}
 use Rattle.feats_plans.specs.Inputs.{InputsText}
 use Rattle.feats_plans.specs.Planned.{PlannedText}
 use Rattle.feats_plans.specs.Selections.{words_of}
@@ -27,9 +29,14 @@ pub record AfterPlan (inputs : InputsText) (w : WorkspaceText) (words : WordsTex
   pub is_plan : IsPlanOf w words plan
   pub holds : Q (planned inputs w words plan)
 
+-- Whether the fault is that of an allocation, of which `IsRefusal` claims nothing.
+abbrev pub is_memory : PlanFault → Bool
+is_memory fault.Memory = true
+is_memory _ = false
+
 -- The message why there is none: the words have no plan, or the plan is refused.
 pub data IsPlanRefusal (inputs : InputsText) (w : WorkspaceText) (words : WordsText) (R : PlannedText → Text → Type 0) (message : Text) : Type 0 where
-  no_plan : (fault : PlanFault) → IsRefusal w words fault → message ≡ plan_message w.packages fault → IsPlanRefusal inputs w words R message
+  no_plan : (fault : PlanFault) → IsRefusal w words fault → IsFalse (is_memory fault) → message ≡ plan_message w.packages fault → IsPlanRefusal inputs w words R message
   of_plan : (plan : PlanText) → IsPlanOf w words plan → R (planned inputs w words plan) message → IsPlanRefusal inputs w words R message
 
 -- Which platform specs of the workspace hold for the host, and for each of the targets.
@@ -57,9 +64,9 @@ pub record AfterWorkspace (inputs : InputsText) (basis : BasisText) (Q : Planned
   pub is_workspace : workspace_in d ≡ Ok w
   pub holds : AfterPlatforms inputs basis w Q
 
--- The message why the document has none. If the document is at fault, only that is claimed.
+-- The message why the document has none: it describes no workspace, or the workspace has none.
 pub data IsWorkspaceRefusal (inputs : InputsText) (basis : BasisText) (R : PlannedText → Text → Type 0) (d : Json) (message : Text) : Type 0 where
-  no_workspace : IsErr (workspace_in d) → IsWorkspaceRefusal inputs basis R d message
+  no_workspace : IsErrAnd (workspace_in d) (λ reason. message ≡ document_message reason) → IsWorkspaceRefusal inputs basis R d message
   of_workspace : (w : WorkspaceText) → workspace_in d ≡ Ok w → IsPlatformRefusal inputs basis w R message → IsWorkspaceRefusal inputs basis R d message
 
 abbrev pub not_text_message : Text
@@ -73,7 +80,7 @@ pub record AfterDocument (inputs : InputsText) (basis : BasisText) (bytes : Text
 -- The message why the bytes have none: they aren't UTF-8, aren't JSON, or the document has none.
 pub data IsDocumentRefusal (inputs : InputsText) (basis : BasisText) (bytes : Text) (R : PlannedText → Text → Type 0) (message : Text) : Type 0 where
   not_text : (IsUtf8 bytes → ⊥) → message ≡ not_text_message → IsDocumentRefusal inputs basis bytes R message
-  not_json : IsUtf8 bytes → document bytes ≡ None → IsDocumentRefusal inputs basis bytes R message
+  not_json : IsUtf8 bytes → document bytes ≡ None → message ≡ not_json_message → IsDocumentRefusal inputs basis bytes R message
   of_json : IsUtf8 bytes → IsSomeAnd (document bytes) (λ d. IsWorkspaceRefusal inputs basis R d message) → IsDocumentRefusal inputs basis bytes R message
 
 -- THE PLAN for the arguments, the files and the bytes of the document has the property.

@@ -2,6 +2,7 @@
 #![tactic(auto)]
 
 mod basis;
+mod document_messages;
 mod documents;
 mod inputs;
 mod planned;

@@ -24,7 +24,6 @@ pub data SourceText : Type 0 where
 pub record ArgumentsText : Type 0 where
   pub question : QuestionText
   pub metadata : Text
-  pub new : Option Text
   pub host : PlatformText
   pub targets : List PlatformText
   pub resolver : SourceText
@@ -82,7 +81,6 @@ arguments r =
     Ok (record {
       question = r.question;
       metadata = r.metadata;
-      new = r.new;
       host = host;
       targets = targets;
       resolver = resolver;

@@ -85,7 +85,9 @@ check_shape = command_shape (codes "check") (word_rule (codes "policy") ∷ flag
 
 -- The command about two documents, which are words.
 abbrev pub diff_shape : Shape
-diff_shape = record (new_shape (codes "diff")) { rules = (word_rule (codes "old") ∷ word_rule (codes "new") ∷ []) ++ (platform_rules ++ selection_rules) }
+diff_shape = record (new_shape (codes "diff")) {
+  rules = (word_rule (codes "old") ∷ word_rule (codes "new") ∷ option_rule (codes "old-manifest") ∷ []) ++ (platform_rules ++ selection_rules);
+}
 
 abbrev pub slim_shape : Shape
 slim_shape = command_shape (codes "slim") []

@@ -32,6 +32,7 @@ pub record RequestText : Type 0 where
   pub targets : List Text
   pub resolver : Option Text
   pub manifest : Option Text
+  pub old_manifest : Option Text
   pub packages : List Text
   pub workspace : Bool
   pub features : List Text
@@ -85,6 +86,7 @@ asked question rows = record {
   targets = values (codes "target") rows;
   resolver = value (codes "resolver") rows;
   manifest = value (codes "manifest") rows;
+  old_manifest = value (codes "old-manifest") rows;
   packages = values (codes "package") rows;
   workspace = is_given (codes "workspace") rows;
   features = values (codes "features") rows;
@@ -95,6 +97,10 @@ asked question rows = record {
   depth = value (codes "depth") rows;
   edges = value (codes "edges") rows;
 }
+
+-- The same request about one document, with its root manifest.
+abbrev pub document_request : RequestText → Text → Option Text → RequestText
+document_request r path manifest = record r { metadata = path; new = None; manifest = manifest; old_manifest = None }
 
 -- What the command of a name is asked for by its words and options.
 abbrev pub request_of : Text × List Row → Option RequestText

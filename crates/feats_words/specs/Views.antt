@@ -34,7 +34,6 @@ abbrev pub arguments_text : CommandArguments → ArgumentsText
 arguments_text a = record {
   question = question_text a.question;
   metadata = a.metadata.now;
-  new = option_map (λ t. t.now) a.new;
   host = platform_text a.host;
   targets = map platform_text a.targets.items;
   resolver = source_text a.resolver;
@@ -58,6 +57,7 @@ request_text r = record {
   targets = texts r.targets.items;
   resolver = option_map (λ t. t.now) r.resolver;
   manifest = option_map (λ t. t.now) r.manifest;
+  old_manifest = option_map (λ t. t.now) r.old_manifest;
   packages = texts r.packages.items;
   workspace = r.workspace;
   features = texts r.features.items;

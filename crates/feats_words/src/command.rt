@@ -5,8 +5,9 @@ ghost use Rattle.feats_words.specs.Commands as spec;
 ghost use Rattle.feats_words.specs.inner.Building.{IsMade, alone, with_rules};
 
 use crate::examples::{
-    CHECK_EXAMPLE, DIFF_EXAMPLE, DOT_EXAMPLE, DUPLICATES_EXAMPLE, FEATURE_HELP, LIST_EXAMPLE,
-    PLAN_EXAMPLE, SLIM_EXAMPLE, SPECS_EXAMPLE, TREE_EXAMPLE, WHY_EXAMPLE, WHY_NOT_EXAMPLE,
+    CHECK_EXAMPLE, DIFF_EXAMPLE, DIFF_RESOLVER_HELP, DOT_EXAMPLE, DUPLICATES_EXAMPLE, FEATURE_HELP,
+    LIST_EXAMPLE, PLAN_EXAMPLE, RESOLVER_HELP, SLIM_EXAMPLE, SPECS_EXAMPLE, TREE_EXAMPLE,
+    WHY_EXAMPLE, WHY_NOT_EXAMPLE,
 };
 use crate::options::{flag, lettered, option, repeated, required, short, word};
 use clap::{Arg, Command};
@@ -28,8 +29,8 @@ fn with_arg<'a>(command: Made<'a>, arg: Arg<'a>) -> Made<'a>
     }
 }
 
-/// Adds the options that name the files of the platforms and the resolver.
-fn with_platforms<'a>(alloc: Global, command: Made<'a>) -> Made<'a>
+/// Adds the options that name the files of the platforms and the resolver, of which the last has this help.
+fn with_platforms<'a>(alloc: Global, command: Made<'a>, resolver_help: &'a str) -> Made<'a>
     ensures { (app : App) → IfOk command.entry (λ c. IsMade c app) → IfOk result (λ r. IsMade r (with_rules app spec.platform_rules)) }
 {
     let command = with_arg(
@@ -50,15 +51,7 @@ fn with_platforms<'a>(alloc: Global, command: Made<'a>) -> Made<'a>
             "A target platform, and a file with the output of `rustc --print cfg --target TRIPLE --crate-type proc-macro`, without the line `proc_macro`; without it the host",
         ),
     );
-    let command = with_arg(
-        command,
-        option(
-            alloc,
-            "resolver",
-            "N",
-            "The version of the resolver: 1, 2 or 3; without it and --manifest 2",
-        ),
-    );
+    let command = with_arg(command, option(alloc, "resolver", "N", resolver_help));
     with_arg(
         command,
         option(
@@ -139,11 +132,20 @@ fn with_selection<'a>(alloc: Global, command: Made<'a>, hides_format: bool) -> M
     with_arg(command, format(alloc, hides_format))
 }
 
-/// Adds the options of commands without a document.
-fn with_common<'a>(alloc: Global, command: Made<'a>, hides_format: bool) -> Made<'a>
+/// Adds the options of commands without a document. The resolver's has this help.
+fn with_common<'a>(
+    alloc: Global,
+    command: Made<'a>,
+    resolver_help: &'a str,
+    hides_format: bool,
+) -> Made<'a>
     ensures { (app : App) → IfOk command.entry (λ c. IsMade c app) → IfOk result (λ r. IsMade r (with_rules app (spec.platform_rules ++ spec.selection_rules))) }
 {
-    with_selection(alloc, with_platforms(alloc, command), hides_format)
+    with_selection(
+        alloc,
+        with_platforms(alloc, command, resolver_help),
+        hides_format,
+    )
 }
 
 /// Adds the options of a command about a document.
@@ -159,7 +161,7 @@ fn with_options<'a>(alloc: Global, command: Made<'a>, hides_format: bool) -> Mad
             "The output of `cargo metadata --format-version 1 --all-features`; `-` is standard input",
         ),
     );
-    with_common(alloc, command, hides_format)
+    with_common(alloc, command, RESOLVER_HELP, hides_format)
 }
 
 /// Returns a command without options.
@@ -395,7 +397,16 @@ fn diff_command<'a>(alloc: Global) -> Made<'a>
             "That after the change; `-` is standard input",
         ),
     );
-    with_common(alloc, command, false)
+    let command = with_arg(
+        command,
+        option(
+            alloc,
+            "old-manifest",
+            "FILE",
+            "The root manifest of the workspace of OLD; --manifest is that of NEW",
+        ),
+    );
+    with_common(alloc, command, DIFF_RESOLVER_HELP, false)
 }
 
 /// Returns the command `slim`.

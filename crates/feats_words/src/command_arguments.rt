@@ -34,8 +34,6 @@ pub struct CommandArguments<'a> {
     pub question: Question<'a>,
     /// The path of the document, or `-`.
     pub metadata: &'a str,
-    /// The path of the document with which `diff` compares it, or `-`.
-    pub new: Option<&'a str>,
     pub host: PlatformWord<'a>,
     pub targets: Vec<PlatformWord<'a>>,
     pub resolver: ResolverSource<'a>,
@@ -59,7 +57,6 @@ impl Drop for CommandArguments<'_> {
         let CommandArguments {
             question: _question,
             metadata: _metadata,
-            new: _new,
             host: _host,
             targets: _targets,
             resolver: _resolver,
@@ -161,7 +158,6 @@ pub fn arguments<'a>(
     Ok(CommandArguments {
         question: request.question,
         metadata: request.metadata,
-        new: request.new,
         host,
         targets,
         resolver,

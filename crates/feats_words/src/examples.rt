@@ -60,11 +60,19 @@ Example, with the files of `feats plan --help`. Whether the code compiles after 
 ";
 
 pub(crate) const DIFF_EXAMPLE: &str = "\
-Example, with the files of `feats plan --help`, and two outputs of `cargo metadata`:
-  feats diff old.json new.json --host x86_64-unknown-linux-gnu=host.cfg -p server
+Example, with the files of `feats plan --help`, and two outputs of `cargo metadata`, each with the root manifest of its workspace:
+  feats diff old.json new.json --old-manifest old.toml --manifest Cargo.toml --host x86_64-unknown-linux-gnu=host.cfg -p server
 Two builds of one workspace, whose words follow `--`:
   feats diff --metadata metadata.json --host x86_64-unknown-linux-gnu=host.cfg -- -p server -- -p server --all-features
 ";
+
+/// The help of the resolver's option.
+pub(crate) const RESOLVER_HELP: &str =
+    "The version of the resolver: 1, 2 or 3; without it and --manifest 2";
+
+/// The same for `diff`.
+pub(crate) const DIFF_RESOLVER_HELP: &str = "\
+The version of the resolver: 1, 2 or 3; without it OLD and NEW need --old-manifest and --manifest, and builds of one document have 2";
 
 /// The help of the word FEATURE.
 pub(crate) const FEATURE_HELP: &str = "\

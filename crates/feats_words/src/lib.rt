@@ -16,5 +16,5 @@ pub use command_arguments::{CommandArguments, Format, ResolverSource, arguments}
 pub use edges::Edges;
 pub use fault::WordsFault;
 pub use platform_words::{PlatformWord, platform_word};
-pub use request::{Question, Request, parse};
+pub use request::{Question, Request, document_request, parse};
 pub use splitting::feature_words;

@@ -49,8 +49,10 @@ pub struct Request<'a> {
     pub targets: Vec<&'a str>,
     /// The version of the resolver.
     pub resolver: Option<&'a str>,
-    /// The path of the root manifest.
+    /// The path of the root manifest. For `diff` with two documents it is that of the second.
     pub manifest: Option<&'a str>,
+    /// The path of the root manifest of the first document of `diff`.
+    pub old_manifest: Option<&'a str>,
     pub packages: Vec<&'a str>,
     pub workspace: bool,
     /// The values of `--features`, each with one or more words.
@@ -171,6 +173,7 @@ fn asked<'a>(
         targets: values(alloc, matches, "target")?,
         resolver: value(matches, "resolver"),
         manifest: value(matches, "manifest"),
+        old_manifest: value(matches, "old-manifest"),
         packages: values(alloc, matches, "package")?,
         workspace: is_given(matches, "workspace"),
         features: values(alloc, matches, "features")?,
@@ -180,6 +183,36 @@ fn asked<'a>(
         format: value(matches, "format"),
         depth: value(matches, "depth"),
         edges: value(matches, "edges"),
+    })
+}
+
+/// Returns `request` about the document at `metadata` alone, whose root manifest is at `manifest`. The only error is out of memory.
+pub fn document_request<'a>(
+    alloc: Global,
+    request: &Request<'a>,
+    metadata: &'a str,
+    manifest: Option<&'a str>,
+) -> Result<Request<'a>, AllocError>
+    ensures { IfOk result (λ one. request_text one ≡ spec.document_request (request_text request.now) metadata.entry.now (option_map (λ t. t.now) manifest.entry)) }
+{
+    Ok(Request {
+        question: request.question,
+        metadata,
+        new: None,
+        host: request.host,
+        targets: copied(alloc, &request.targets)?,
+        resolver: request.resolver,
+        manifest,
+        old_manifest: None,
+        packages: copied(alloc, &request.packages)?,
+        workspace: request.workspace,
+        features: copied(alloc, &request.features)?,
+        all_features: request.all_features,
+        no_default_features: request.no_default_features,
+        tests: request.tests,
+        format: request.format,
+        depth: request.depth,
+        edges: request.edges,
     })
 }
 

@@ -1,4 +1,4 @@
-use Rattle.std.proofs.Common.{◌≡◌}
+use Rattle.std.proofs.Common.{◌≡◌, rules}
 use Rattle.std.proofs.lemmas.Result.{IfOk-weaker}
 use Rattle.cargo_plans.specs.WordsView.{words_text}
 use Rattle.cargo_workspaces.specs.WorkspaceView.{workspace_text}
@@ -32,5 +32,5 @@ returns-in-Err g c =
     record {
       output = tt;
       fault = says_more c.plan_refused.result (λ m. m ≡ plan_message w.packages c.in-Err.fault) (IsPlanRefusal inputs w words R)
-          (λ m h. no_plan c.in-Err.fault c.in-Err.ensures.fault h) c.plan_refused.ensures;
+          (λ m h. no_plan c.in-Err.fault c.in-Err.ensures.fault (search rules) h) c.plan_refused.ensures;
     }

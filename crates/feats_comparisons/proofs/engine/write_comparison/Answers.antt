@@ -2,7 +2,7 @@ use Rattle.std.proofs.Common.{subst, sym}
 use Rattle.feats_differences.specs.feats_answers.AnswerViews.{answer_text}
 use Rattle.feats_comparisons.specs.Comparisons.{IsComparison}
 use Rattle.feats_comparisons.specs.SideView.{side_text}
-use Rattle.feats_comparisons.proofs.comparing.run.Goals as goal
+use Rattle.feats_comparisons.proofs.engine.write_comparison.Goals as goal
 
 pub returns-clause-ok : goal.returns-clause-ok
 returns-clause-ok g c =
