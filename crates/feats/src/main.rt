@@ -30,7 +30,7 @@ use std::process::ExitCode;
 use std::{env, io};
 
 /// The answer to `--version`. `./build` and the launchers replace the text in parentheses, if it isn't true of their program.
-const VERSION: &str = "feats 0.6.0 (proved, rattle-kit-13b logic dac8208d650f15bf)\n";
+const VERSION: &str = "feats 0.7.0 (proved, rattle-kit-13f logic dac8208d650f15bf)\n";
 
 /// Opens the file at `path`.
 fn opened(rt: &HostRuntime, path: &str) -> Result<FromReader<File>, Fault>
@@ -291,21 +291,16 @@ fn compare_sides(
     compare_with(rt, old, new, &mut reader)
 }
 
-/// Compares the builds of `old` and `new`. Returns whether they differ.
+/// Compares the builds of `old` and of the arguments `new`. Returns whether they differ.
 fn compare_arguments(
     rt: &HostRuntime,
-    old: &CommandArguments<'_>,
+    old: SideInputs<'_, '_, '_>,
     new: &CommandArguments<'_>,
 ) -> Result<bool, Fault> {
-    let old_files = plan_files(rt, old, None)?;
-    let old = SideInputs {
-        arguments: old,
-        files: &old_files,
-    };
-    let new_files = plan_files(rt, new, Some(old))?;
+    let files = plan_files(rt, new, Some(old))?;
     let new = SideInputs {
         arguments: new,
-        files: &new_files,
+        files: &files,
     };
     compare_sides(rt, old, new)
 }
@@ -315,7 +310,12 @@ fn compare_requests(rt: &HostRuntime, old: Request<'_>, new: Request<'_>) -> Res
     let old = command_arguments(rt.alloc(), old)?;
     let new = command_arguments(rt.alloc(), new)?;
     one_format(rt.alloc(), &old, &new)?;
-    compare_arguments(rt, &old, &new)
+    let files = plan_files(rt, &old, None)?;
+    let old = SideInputs {
+        arguments: &old,
+        files: &files,
+    };
+    compare_arguments(rt, old, &new)
 }
 
 /// Compares the builds of the two documents of `request`; `new` is the path of the second. Returns whether they differ.

@@ -1,4 +1,4 @@
-use Rattle.std.proofs.Common.{◌≡◌, rules}
+use Rattle.std.proofs.Common.{◌≡◌}
 use Rattle.feats_plans.specs.BasisView.{basis_text}
 use Rattle.feats_plans.specs.Inputs.{inputs_text}
 use Rattle.feats_plans.specs.Planning.{IsDocumentRefusal, not_text, not_text_message}
@@ -9,5 +9,6 @@ pub returns-in_default-clause-fault : goal.returns-in_default-clause-fault
 returns-in_default-clause-fault g c =
     let inputs = inputs_text c.args.arguments.now c.args.files.now in
     let basis = basis_text c.args.basis.now in
-    says_more c.refused.result (λ m. m ≡ not_text_message) (IsDocumentRefusal inputs basis c.args.bytes.now (g.V.PlanVisitor.refuses c.args.visitor.now))
-    (λ m h. not_text (search rules) h) c.refused.ensures
+    let R = g.V.PlanVisitor.refuses c.args.visitor.now in
+    says_more c.refused.result (λ m. m ≡ not_text_message) (IsDocumentRefusal inputs basis c.args.bytes.now R)
+    (λ m h. not_text c.in_default.ensures.cases.0 h) c.refused.ensures
