@@ -1,0 +1,2 @@
+pub mod Lost
+pub mod Strings

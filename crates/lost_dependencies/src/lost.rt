@@ -1,0 +1,47 @@
+//! Which declarations are lost.
+ghost use Rattle.std.specs.Prelude.{◌≡◌, map, option_map};
+ghost use Rattle.std.specs.List.{list_any};
+ghost use Rattle.cargo_workspaces.specs.Views.{declaration_text};
+ghost use Rattle.lost_dependencies.specs.Lost as spec;
+ghost use Rattle.plan_rows.specs.Steps.{admits};
+
+use cargo_workspaces::{Declaration, Kind};
+use plan_rows::Platform;
+
+/// Returns whether a declaration with this platform applies on `holder`.
+fn admits<P: Platform>(holder: &P, platform: Option<&str>) -> bool
+    ensures { result ≡ admits (P.holds holder.now) (option_map (λ t. t.now) platform.entry) }
+{
+    match platform {
+        None => true,
+        Some(spec) => holder.holds(spec),
+    }
+}
+
+/// Returns whether a declaration with this platform applies on one of `targets`.
+fn admits_any<P: Platform>(targets: &[P], platform: Option<&str>) -> bool
+    ensures { result ≡ list_any (λ holds. admits holds (option_map (λ t. t.now) platform.entry)) (map P.holds targets.now) }
+{
+    for target in targets {
+        if admits(target, platform) {
+            return true;
+        }
+    }
+    false
+}
+
+/// Returns whether the build needs the dependency that `declaration` names, and the document has no package for it. Declarations for
+/// tests are looked at if `for_tests`, and else the others.
+pub(crate) fn is_lost<P: Platform>(
+    host: &P,
+    targets: &[P],
+    for_tests: bool,
+    declaration: &Declaration<'_>,
+) -> bool
+    ensures { result ≡ spec.is_lost (P.holds host.now) (map P.holds targets.now) for_tests (declaration_text declaration.now) }
+{
+    (declaration.kind == Kind::Development) == for_tests
+        && !declaration.optional
+        && declaration.leads_to.is_none()
+        && (admits(host, declaration.platform) || admits_any(targets, declaration.platform))
+}
