@@ -1,5 +1,5 @@
 -- The answer for arguments and the bytes of files, or the message why there is none.
-use Rattle.std.specs.Prelude.{◌≡◌, List, [], Bool, true}
+use Rattle.std.specs.Prelude.{◌≡◌, ◌++◌, List, [], Bool, true}
 use Rattle.cargo_workspaces.specs.Workspaces.{Text}
 use Rattle.feats_answers.specs.AnswerTexts.{AnswerText}
 use Rattle.feats_answers.specs.Answers.{IsAnswerTo, IsNoAnswerTo}
@@ -10,6 +10,7 @@ use Rattle.feats_plans.specs.Planned.{PlannedText}
 use Rattle.feats_plans.specs.Planning.{AfterPlanning, IsPlanningRefusal}
 use Rattle.feats_tool.specs.Rules.{AreRules, IsRulesRefusal}
 use Rattle.feats_words.specs.Requests.{QuestionText, check}
+use Rattle.lost_dependencies.specs.Lost.{lost_lines}
 use Rattle.policy_answers.specs.Warnings.{ArePolicyWarnings, IsStrictRefusal, PolicyWordsText}
 use Rattle.policies.specs.Rules.{RuleText}
 use Rattle.shown_texts.specs.Plain.{is_plain}
@@ -27,9 +28,15 @@ abbrev pub policy_words : Text → Bool → Bool → List RuleText → PolicyWor
 policy_words file every_choice strict rules = record { file = file; every_choice = every_choice; strict = strict; rules = rules }
 
 -- The warnings about the rules of the policy; none, if the question names no policy.
-abbrev pub AreWarnings : QuestionText → List RuleText → PlannedText → List Text → Type 0
-AreWarnings (check file every_choice strict) rules p lines = ArePolicyWarnings (policy_words file every_choice strict rules) p.workspace p.words lines
-AreWarnings _ rules p lines = lines ≡ []
+abbrev pub AreRuleWarnings : QuestionText → List RuleText → PlannedText → List Text → Type 0
+AreRuleWarnings (check file every_choice strict) rules p lines = ArePolicyWarnings (policy_words file every_choice strict rules) p.workspace p.words lines
+AreRuleWarnings _ rules p lines = lines ≡ []
+
+-- The warnings: those about the document, and those about the rules.
+pub record AreWarnings (rules : List RuleText) (p : PlannedText) (lines : List Text) : Type 0 where
+  pub of_rules : List Text
+  pub are_of_rules : AreRuleWarnings p.inputs.arguments.question rules p of_rules
+  pub are_lines : lines ≡ lost_lines p.words.host p.words.targets p.workspace ++ of_rules
 
 -- The message about a rule whose word names nothing, if each must name something.
 abbrev pub IsStrictly : QuestionText → List RuleText → PlannedText → Text → Type 0
@@ -38,7 +45,7 @@ IsStrictly _ rules p message = ⊥
 
 -- The answer about a plan, with these rules, and the warnings.
 pub record IsPlanAnswer (rules : List RuleText) (p : PlannedText) (answered : AnsweredText) : Type 0 where
-  pub are_warnings : AreWarnings p.inputs.arguments.question rules p answered.warnings
+  pub are_warnings : AreWarnings rules p answered.warnings
   pub is_answer : IsAnswerTo (asked_by p.inputs rules) p.workspace p.words p.plan answered.answer
 
 -- The message why there is none: a word of a rule names nothing, or the question has no answer about the plan.

@@ -6,7 +6,7 @@ ghost use Rattle.feats_files.specs.Messages.{Says};
 ghost use Rattle.feats_plans.specs.PlannedView.{planned_text};
 ghost use Rattle.feats_answers.specs.Answers.{IsAnswerTo, IsNoAnswerTo};
 ghost use Rattle.feats_tool.specs.AnsweredView.{answered_text};
-ghost use Rattle.feats_tool.specs.Answers.{AreWarnings, IsPlanAnswer, IsPlanRefusal, IsStrictly, asked_by};
+ghost use Rattle.feats_tool.specs.Answers.{AreRuleWarnings, AreWarnings, IsPlanAnswer, IsPlanRefusal, IsStrictly, asked_by};
 ghost use Rattle.policy_answers.specs.WarningViews.{string_texts};
 ghost use Rattle.plan_platforms.specs.DeclaredSpecs.{declared_specs};
 ghost use Rattle.plan_platforms.specs.Views.{declared_text};
@@ -17,17 +17,18 @@ use feats_answers::{Answer, Asked, answer_to};
 use feats_files::Fault;
 use feats_plans::{PlanVisitor, Planned};
 use feats_words::Question;
+use lost_dependencies::lost_lines;
 use policies::Rule;
 use policy_answers::{PolicyWords, policy_warnings};
 use std::alloc::Global;
 
 /// Returns the warnings about `rules`, those of the policy; none, if the arguments name no policy.
-fn warnings_of(
+fn rule_warnings(
     alloc: Global,
     rules: &[Rule<'_>],
     planned: &Planned<'_, '_, '_, '_, '_>,
 ) -> Result<Vec<String>, Fault>
-    ensures warnings { IfOk result (λ lines. AreWarnings (planned_text planned.now).inputs.arguments.question (map rule_text rules.now) (planned_text planned.now) (string_texts lines.items)) }
+    ensures warnings { IfOk result (λ lines. AreRuleWarnings (planned_text planned.now).inputs.arguments.question (map rule_text rules.now) (planned_text planned.now) (string_texts lines.items)) }
     ensures fault { IfErr result (λ fault. Says fault (IsStrictly (planned_text planned.now).inputs.arguments.question (map rule_text rules.now) (planned_text planned.now))) }
 {
     match planned.arguments.question {
@@ -46,6 +47,22 @@ fn warnings_of(
         }
         _ => Ok(Vec::new(alloc)),
     }
+}
+
+/// Returns the warnings about the document of the plan, and then those about `rules`, which are those of the policy.
+fn warnings_of(
+    alloc: Global,
+    rules: &[Rule<'_>],
+    planned: &Planned<'_, '_, '_, '_, '_>,
+) -> Result<Vec<String>, Fault>
+    ensures warnings { IfOk result (λ lines. AreWarnings (map rule_text rules.now) (planned_text planned.now) (string_texts lines.items)) }
+    ensures fault { IfErr result (λ fault. Says fault (IsStrictly (planned_text planned.now).inputs.arguments.question (map rule_text rules.now) (planned_text planned.now))) }
+{
+    let words = planned.words;
+    let mut of_rules = rule_warnings(alloc, rules, planned)?;
+    let mut warnings = lost_lines(alloc, planned.workspace, words.host, words.targets)?;
+    warnings.append(&mut of_rules)?;
+    Ok(warnings)
 }
 
 /// Returns the answer to the question of the arguments about the plan. `rules` are those of the policy.
