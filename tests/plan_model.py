@@ -353,6 +353,20 @@ def command_features(document, selection, selected):
 
 # The three steps.
 
+
+def lost_lines(document, selection):
+    """The warnings about required dependencies that lead to no package: those of all packages, and those for tests of the members."""
+    platforms = [selection.host, *selection.targets]
+
+    def lost(id, is_test):
+        return [f'`{it.name}`, a required dependency of {id}, leads to no package of the document: was it made with --filter-platform, or has the '
+                'dependency no library?' for it in document.packages[id].declarations
+                if (it.kind == 'dev') == is_test and not it.is_optional and it.to is None
+                and (it.spec is None or any(at.holds(it.spec) for at in platforms))]
+    ids = sorted(document.packages, key=lambda it: it.encode())
+    return [line for id in ids for line in lost(id, False)] + [line for id in document.members for line in lost(id, True)]
+
+
 class Plan:
     def __init__(self, document, selection):
         self.packages, self.document, self.selection = document.packages, document, selection

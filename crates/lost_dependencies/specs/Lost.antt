@@ -22,8 +22,8 @@ is_lost host targets for_tests d =
 
 abbrev pub line_about : Text → Text → Text
 line_about id name =
-    codes "no package in the document for `" ++ (escaped name ++ (codes "`, a required dependency of "
-    ++ (escaped id ++ codes ": was the document made with --filter-platform, or does the package lack a library?")))
+    codes "`" ++ (escaped name ++ (codes "`, a required dependency of "
+    ++ (escaped id ++ codes ", leads to no package of the document: was it made with --filter-platform, or has the dependency no library?")))
 
 -- The lines of the package `id` with these declarations.
 abbrev pub lines_of : (Text → Bool) → List (Text → Bool) → Bool → Text → List DeclarationText → List Text

@@ -18,11 +18,11 @@ fn line_about(alloc: Global, id: &str, name: &str) -> Result<String, AllocError>
     let id = escaped(alloc, id)?;
     let name = escaped(alloc, name)?;
     let mut line = String::new(alloc);
-    line.push_str("no package in the document for `")?;
+    line.push_str("`")?;
     line.push_str(&name)?;
     line.push_str("`, a required dependency of ")?;
     line.push_str(&id)?;
-    line.push_str(": was the document made with --filter-platform, or does the package lack a library?")?;
+    line.push_str(", leads to no package of the document: was it made with --filter-platform, or has the dependency no library?")?;
     Ok(line)
 }
 
