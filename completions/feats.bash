@@ -10,23 +10,24 @@ _feats_list() {
     'feats tree') echo '-i --invert --depth -e --edges --metadata --host --target --resolver --manifest -p --package --workspace -F --features --all-features --no-default-features --tests --format -h --help' ;;
     'feats dot') echo '-e --edges --metadata --host --target --resolver --manifest -p --package --workspace -F --features --all-features --no-default-features --tests -h --help' ;;
     'feats check') echo '--every-choice --strict --metadata --host --target --resolver --manifest -p --package --workspace -F --features --all-features --no-default-features --tests --format -h --help' ;;
-    'feats diff') echo '--host --target --resolver --manifest -p --package --workspace -F --features --all-features --no-default-features --tests --format -h --help' ;;
+    'feats diff') echo '--old-manifest --host --target --resolver --manifest -p --package --workspace -F --features --all-features --no-default-features --tests --format -h --help' ;;
     'feats slim') echo '--member-manifests --metadata --host --target --resolver --manifest -p --package --workspace -F --features --all-features --no-default-features --tests --format -h --help' ;;
     'feats help') echo '' ;;
     'cargo commands') echo 'plan why why-not specs list duplicates tree dot check diff slim' ;;
-    'cargo plan' | 'cargo why-not' | 'cargo specs' | 'cargo list' | 'cargo diff' | 'cargo slim') echo '--target --resolver --manifest -p --package --workspace -F --features --all-features --no-default-features --tests --format -h --help --manifest-path --locked --offline --frozen' ;;
+    'cargo plan' | 'cargo why-not' | 'cargo specs' | 'cargo list' | 'cargo slim') echo '--target --resolver --manifest -p --package --workspace -F --features --all-features --no-default-features --tests --format -h --help --manifest-path --locked --offline --frozen' ;;
     'cargo why') echo '--all --target --resolver --manifest -p --package --workspace -F --features --all-features --no-default-features --tests --format -h --help --manifest-path --locked --offline --frozen' ;;
     'cargo duplicates') echo '--alone --target --resolver --manifest -p --package --workspace -F --features --all-features --no-default-features --tests --format -h --help --manifest-path --locked --offline --frozen' ;;
     'cargo tree') echo '-i --invert --depth -e --edges --target --resolver --manifest -p --package --workspace -F --features --all-features --no-default-features --tests --format -h --help --manifest-path --locked --offline --frozen' ;;
     'cargo dot') echo '-e --edges --target --resolver --manifest -p --package --workspace -F --features --all-features --no-default-features --tests -h --help --manifest-path --locked --offline --frozen' ;;
     'cargo check') echo '--every-choice --strict --target --resolver --manifest -p --package --workspace -F --features --all-features --no-default-features --tests --format -h --help --manifest-path --locked --offline --frozen' ;;
+    'cargo diff') echo '--old-manifest --target --resolver --manifest -p --package --workspace -F --features --all-features --no-default-features --tests --format -h --help --manifest-path --locked --offline --frozen' ;;
   esac
 }
 
 # Prints what completes the value of an option, or nothing if it has none. The arguments are the program and the option.
 _feats_value() {
   case "$1 $2" in
-    'feats --metadata' | 'feats --manifest' | 'feats --member-manifests' | 'cargo --manifest' | 'cargo --manifest-path') echo files ;;
+    'feats --metadata' | 'feats --manifest' | 'feats --old-manifest' | 'feats --member-manifests' | 'cargo --manifest' | 'cargo --manifest-path' | 'cargo --old-manifest') echo files ;;
     'feats --host' | 'feats --target') echo platforms ;;
     'feats --resolver' | 'cargo --resolver') echo 'words 1 2 3' ;;
     'feats -p' | 'feats --package' | 'feats -i' | 'feats --invert' | 'cargo -p' | 'cargo --package' | 'cargo -i' | 'cargo --invert') echo packages ;;

@@ -1,6 +1,6 @@
 -- The required dependencies of a build that a document has no package for. `host` is which platform specs hold on the host, and `targets`
 -- has the same for each target.
-use Rattle.std.specs.Prelude.{ℕ, List, [], ◌∷◌, ◌++◌, Bool, true, false, not, ◌==◌, ◌&&◌, ◌||◌, Option, is_some, codes, filter, flat_map, map, slice_get}
+use Rattle.std.specs.Prelude.{ℕ, List, [], ◌++◌, Bool, true, false, not, ◌&&◌, ◌||◌, is_some, codes, filter, flat_map, map, slice_get}
 use Rattle.std.specs.List.{list_any}
 use Rattle.std.specs.Option.{option_map_or}
 use Rattle.cargo_workspaces.specs.Workspaces.{DeclarationText, PackageText, Text, WorkspaceText}
@@ -9,15 +9,16 @@ use Rattle.cargo_workspaces.specs.declared.package.Kind.TheVariants.{Build, Deve
 use Rattle.plan_rows.specs.Steps.{admits}
 use Rattle.shown_texts.specs.Shown.{escaped}
 
-abbrev pub is_for_tests : Kind → Bool
-is_for_tests Normal = false
-is_for_tests Build = false
-is_for_tests Development = true
+-- Whether a declaration of a kind is looked at: those for tests, or the others.
+abbrev pub counts : Bool → Kind → Bool
+counts for_tests Normal = not for_tests
+counts for_tests Build = not for_tests
+counts for_tests Development = for_tests
 
 -- Whether a declaration is required on a platform of the build, but leads to no package.
 abbrev pub is_lost : (Text → Bool) → List (Text → Bool) → Bool → DeclarationText → Bool
 is_lost host targets for_tests d =
-    (is_for_tests d.kind == for_tests) && not d.optional && not (is_some d.leads_to)
+    counts for_tests d.kind && not d.optional && not (is_some d.leads_to)
     && (admits host d.platform || list_any (λ holds. admits holds d.platform) targets)
 
 abbrev pub line_about : Text → Text → Text

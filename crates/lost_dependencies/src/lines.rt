@@ -1,9 +1,10 @@
 //! A line for each lost dependency.
-ghost use Rattle.std.specs.Prelude.{◌≡◌, ◌++◌, IfOk, OnOk, flat_map, map, string_bytes};
+ghost use Rattle.std.specs.Prelude.{◌≡◌, ◌++◌, IfOk, OnOk, false, flat_map, map, option_map, slice_get, string_bytes};
 ghost use Rattle.cargo_workspaces.specs.Views.{declaration_text, package_text};
 ghost use Rattle.cargo_workspaces.specs.WorkspaceView.{workspace_text};
 ghost use Rattle.lost_dependencies.specs.Lost as spec;
 ghost use Rattle.lost_dependencies.specs.Strings.{string_texts};
+ghost use Rattle.shown_texts.specs.Shown.{escaped};
 
 use crate::lost::is_lost;
 use cargo_workspaces::{Declaration, Package, Workspace};
@@ -11,18 +12,28 @@ use plan_rows::Platform;
 use shown_texts::escaped;
 use std::alloc::{AllocError, Global};
 
+/// The end of a line.
+const QUESTION: &str =
+    ", leads to no package of the document: was it made with --filter-platform, or has the dependency no library?";
+
+/// Appends `part`, with its control characters escaped.
+fn push_escaped(alloc: Global, line: &mut String, part: &str) -> Result<(), AllocError>
+    ensures { OnOk result (string_bytes line.new ≡ string_bytes line.old ++ escaped part.now) }
+{
+    let part = escaped(alloc, part)?;
+    line.push_str(part.as_str())
+}
+
 /// Returns the line about the dependency `name` of the package `id`.
 fn line_about(alloc: Global, id: &str, name: &str) -> Result<String, AllocError>
     ensures { IfOk result (λ line. string_bytes line ≡ spec.line_about id.now name.now) }
 {
-    let id = escaped(alloc, id)?;
-    let name = escaped(alloc, name)?;
     let mut line = String::new(alloc);
     line.push_str("`")?;
-    line.push_str(&name)?;
+    push_escaped(alloc, &mut line, name)?;
     line.push_str("`, a required dependency of ")?;
-    line.push_str(&id)?;
-    line.push_str(", leads to no package of the document: was it made with --filter-platform, or has the dependency no library?")?;
+    push_escaped(alloc, &mut line, id)?;
+    line.push_str(QUESTION)?;
     Ok(line)
 }
 
@@ -57,9 +68,24 @@ fn push_of_packages<P: Platform>(
     ensures { OnOk result (string_texts lines.new.items ≡ string_texts lines.old.items ++ flat_map (spec.package_lines (P.holds host.now) (map P.holds targets.now) false) (map package_text packages.now)) }
 {
     for package in packages {
-        push_lines(alloc, lines, host, targets, false, package.id, &package.declarations)?;
+        push_lines(
+            alloc,
+            lines,
+            host,
+            targets,
+            false,
+            package.id,
+            &package.declarations,
+        )?;
     }
     Ok(())
+}
+
+/// Returns package `number`, if the workspace has it.
+fn package_at<'w, 'v>(workspace: &'w Workspace<'v>, number: usize) -> Option<&'w Package<'v>>
+    ensures { option_map (λ p. package_text p.now) result ≡ slice_get (workspace_text workspace.now).packages number }
+{
+    workspace.packages().get(number)
 }
 
 /// Appends the lines about lost dependencies for tests of package `number`.
@@ -73,8 +99,16 @@ fn push_of_member<P: Platform>(
 ) -> Result<(), AllocError>
     ensures { OnOk result (string_texts lines.new.items ≡ string_texts lines.old.items ++ spec.member_lines (P.holds host.now) (map P.holds targets.now) (workspace_text workspace.now).packages number) }
 {
-    match workspace.packages().get(number) {
-        Some(package) => push_lines(alloc, lines, host, targets, true, package.id, &package.declarations),
+    match package_at(workspace, number) {
+        Some(package) => push_lines(
+            alloc,
+            lines,
+            host,
+            targets,
+            true,
+            package.id,
+            &package.declarations,
+        ),
         None => Ok(()),
     }
 }

@@ -30,6 +30,16 @@ fn admits_any<P: Platform>(targets: &[P], platform: Option<&str>) -> bool
     false
 }
 
+/// Returns whether a declaration of this kind is looked at: those for tests if `for_tests`, and else the others.
+fn counts(for_tests: bool, kind: Kind) -> bool
+    ensures { result ≡ spec.counts for_tests kind }
+{
+    match kind {
+        Kind::Development => for_tests,
+        Kind::Normal | Kind::Build => !for_tests,
+    }
+}
+
 /// Returns whether the build needs the dependency that `declaration` names, and the document has no package for it. Declarations for
 /// tests are looked at if `for_tests`, and else the others.
 pub(crate) fn is_lost<P: Platform>(
@@ -40,7 +50,7 @@ pub(crate) fn is_lost<P: Platform>(
 ) -> bool
     ensures { result ≡ spec.is_lost (P.holds host.now) (map P.holds targets.now) for_tests (declaration_text declaration.now) }
 {
-    (declaration.kind == Kind::Development) == for_tests
+    counts(for_tests, declaration.kind)
         && !declaration.optional
         && declaration.leads_to.is_none()
         && (admits(host, declaration.platform) || admits_any(targets, declaration.platform))

@@ -1,4 +1,4 @@
-use Rattle.std.proofs.Common.{◌≡◌, ◌++◌, map, drop, flat_map, false}
+use Rattle.std.proofs.Common.{◌≡◌, ◌++◌, map, drop, flat_map}
 use Rattle.cargo_workspaces.specs.WorkspaceView.{workspace_text}
 use Rattle.lost_dependencies.specs.Lost.{lost_lines, member_lines}
 use Rattle.lost_dependencies.specs.Strings.{string_texts}
