@@ -3,7 +3,7 @@
 # Prints the words of a list. The arguments are the program, feats or cargo, and the name of a command or `commands`.
 _feats_list() {
   case "$1 $2" in
-    'feats commands') echo 'plan why why-not specs list duplicates tree dot check diff slim help' ;;
+    'feats commands' | 'cargo commands') echo 'plan why why-not specs list duplicates tree dot check diff slim help' ;;
     'feats plan' | 'feats why-not' | 'feats specs' | 'feats list') echo '--metadata --host --target --resolver --manifest -p --package --workspace -F --features --all-features --no-default-features --tests --format -h --help' ;;
     'feats why') echo '--all --metadata --host --target --resolver --manifest -p --package --workspace -F --features --all-features --no-default-features --tests --format -h --help' ;;
     'feats duplicates') echo '--alone --metadata --host --target --resolver --manifest -p --package --workspace -F --features --all-features --no-default-features --tests --format -h --help' ;;
@@ -12,26 +12,25 @@ _feats_list() {
     'feats check') echo '--every-choice --strict --metadata --host --target --resolver --manifest -p --package --workspace -F --features --all-features --no-default-features --tests --format -h --help' ;;
     'feats diff') echo '--old-manifest --host --target --resolver --manifest -p --package --workspace -F --features --all-features --no-default-features --tests --format -h --help' ;;
     'feats slim') echo '--member-manifests --metadata --host --target --resolver --manifest -p --package --workspace -F --features --all-features --no-default-features --tests --format -h --help' ;;
-    'feats help') echo '' ;;
-    'cargo commands') echo 'plan why why-not specs list duplicates tree dot check diff slim' ;;
-    'cargo plan' | 'cargo why-not' | 'cargo specs' | 'cargo list' | 'cargo slim') echo '--target --resolver --manifest -p --package --workspace -F --features --all-features --no-default-features --tests --format -h --help --manifest-path --locked --offline --frozen' ;;
-    'cargo why') echo '--all --target --resolver --manifest -p --package --workspace -F --features --all-features --no-default-features --tests --format -h --help --manifest-path --locked --offline --frozen' ;;
-    'cargo duplicates') echo '--alone --target --resolver --manifest -p --package --workspace -F --features --all-features --no-default-features --tests --format -h --help --manifest-path --locked --offline --frozen' ;;
-    'cargo tree') echo '-i --invert --depth -e --edges --target --resolver --manifest -p --package --workspace -F --features --all-features --no-default-features --tests --format -h --help --manifest-path --locked --offline --frozen' ;;
-    'cargo dot') echo '-e --edges --target --resolver --manifest -p --package --workspace -F --features --all-features --no-default-features --tests -h --help --manifest-path --locked --offline --frozen' ;;
-    'cargo check') echo '--every-choice --strict --target --resolver --manifest -p --package --workspace -F --features --all-features --no-default-features --tests --format -h --help --manifest-path --locked --offline --frozen' ;;
-    'cargo diff') echo '--old-manifest --target --resolver --manifest -p --package --workspace -F --features --all-features --no-default-features --tests --format -h --help --manifest-path --locked --offline --frozen' ;;
+    'feats help' | 'cargo help') echo '' ;;
+    'cargo plan' | 'cargo why-not' | 'cargo specs' | 'cargo list' | 'cargo slim') echo '--target --resolver --manifest -p --package --workspace -F --features --all-features --no-default-features --tests --format -h --help --manifest-path --locked --offline --frozen --config -Z -q --quiet -v --verbose --color -C -r --release --profile -j --jobs --keep-going --message-format' ;;
+    'cargo why') echo '--all --target --resolver --manifest -p --package --workspace -F --features --all-features --no-default-features --tests --format -h --help --manifest-path --locked --offline --frozen --config -Z -q --quiet -v --verbose --color -C -r --release --profile -j --jobs --keep-going --message-format' ;;
+    'cargo duplicates') echo '--alone --target --resolver --manifest -p --package --workspace -F --features --all-features --no-default-features --tests --format -h --help --manifest-path --locked --offline --frozen --config -Z -q --quiet -v --verbose --color -C -r --release --profile -j --jobs --keep-going --message-format' ;;
+    'cargo tree') echo '-i --invert --depth -e --edges --target --resolver --manifest -p --package --workspace -F --features --all-features --no-default-features --tests --format -h --help --manifest-path --locked --offline --frozen --config -Z -q --quiet -v --verbose --color -C -r --release --profile -j --jobs --keep-going --message-format' ;;
+    'cargo dot') echo '-e --edges --target --resolver --manifest -p --package --workspace -F --features --all-features --no-default-features --tests -h --help --manifest-path --locked --offline --frozen --config -Z -q --quiet -v --verbose --color -C -r --release --profile -j --jobs --keep-going --message-format' ;;
+    'cargo check') echo '--every-choice --strict --target --resolver --manifest -p --package --workspace -F --features --all-features --no-default-features --tests --format -h --help --manifest-path --locked --offline --frozen --config -Z -q --quiet -v --verbose --color -C -r --release --profile -j --jobs --keep-going --message-format' ;;
+    'cargo diff') echo '--old-manifest --target --resolver --manifest -p --package --workspace -F --features --all-features --no-default-features --tests --format -h --help --manifest-path --locked --offline --frozen --config -Z -q --quiet -v --verbose --color -C -r --release --profile -j --jobs --keep-going --message-format' ;;
   esac
 }
 
 # Prints what completes the value of an option, or nothing if it has none. The arguments are the program and the option.
 _feats_value() {
   case "$1 $2" in
-    'feats --metadata' | 'feats --manifest' | 'feats --old-manifest' | 'feats --member-manifests' | 'cargo --manifest' | 'cargo --manifest-path' | 'cargo --old-manifest') echo files ;;
+    'feats --metadata' | 'feats --manifest' | 'feats --old-manifest' | 'feats --member-manifests' | 'cargo --manifest' | 'cargo --manifest-path' | 'cargo -C' | 'cargo --old-manifest') echo files ;;
     'feats --host' | 'feats --target') echo platforms ;;
     'feats --resolver' | 'cargo --resolver') echo 'words 1 2 3' ;;
     'feats -p' | 'feats --package' | 'feats -i' | 'feats --invert' | 'cargo -p' | 'cargo --package' | 'cargo -i' | 'cargo --invert') echo packages ;;
-    'feats -F' | 'feats --features' | 'feats --depth' | 'feats -e' | 'feats --edges' | 'cargo -F' | 'cargo --features' | 'cargo --depth' | 'cargo -e' | 'cargo --edges') echo none ;;
+    'feats -F' | 'feats --features' | 'feats --depth' | 'feats -e' | 'feats --edges' | 'cargo -F' | 'cargo --features' | 'cargo --config' | 'cargo -Z' | 'cargo --color' | 'cargo --profile' | 'cargo -j' | 'cargo --jobs' | 'cargo --message-format' | 'cargo --depth' | 'cargo -e' | 'cargo --edges') echo none ;;
     'feats --format' | 'cargo --format') echo 'words text json' ;;
     'cargo --target') echo triples ;;
   esac
@@ -114,7 +113,7 @@ _feats_complete() {
   for (( ; at < count; at++)); do
     word=${line[at]} kind=
     case $word in
-      --*=*) ;;
+      --*=* | +*) ;;
       -*) kind=$(_feats_value "$program" "$word") ;;
       *) if [ -n "$command" ]; then number=$((number + 1)); else command=$word; fi ;;
     esac
