@@ -197,7 +197,7 @@ launch() {
 add_value() {
   local front=$2 file=$3 copy=input${#words[@]}
   case $1 in
-    --metadata | --manifest | --old-manifest) ;;
+    --metadata | --manifest | --old-manifest | --member-manifests) ;;
     --host | --target)
       case $3 in
         ?*=?*) front=$2${3%%=*}= file=${3#*=} ;;
@@ -274,14 +274,14 @@ launch_feats() {
   fi
   while [ $# -gt 0 ]; do
     case $1 in
-      --metadata | --manifest | --old-manifest | --host | --target)
+      --metadata | --manifest | --old-manifest | --member-manifests | --host | --target)
         words+=("$1")
         if [ $# -gt 1 ]; then
           add_value "$1" "" "$2"
           shift
         fi
         ;;
-      --metadata=* | --manifest=* | --old-manifest=* | --host=* | --target=*) add_value "${1%%=*}" "${1%%=*}=" "${1#*=}" ;;
+      --metadata=* | --manifest=* | --old-manifest=* | --member-manifests=* | --host=* | --target=*) add_value "${1%%=*}" "${1%%=*}=" "${1#*=}" ;;
       -?*)
         words+=("$1")
         if takes_value "$1" && [ $# -gt 1 ]; then
