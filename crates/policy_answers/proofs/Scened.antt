@@ -1,6 +1,6 @@
 -- The answer from what is printed by some scenes.
 use Rattle.std.proofs.Common.{◌≡◌, ap, refl, subst, List, ℕ, Bool, Option, Some, None, Result, Ok, Err}
-use Rattle.std.specs.Prelude.{IfOk, IfErr}
+use Rattle.std.specs.Prelude.{IfOk, IfErr, IsFalse}
 use Rattle.std.proofs.lemmas.Result.{IfOk-weaker}
 use Rattle.cargo_plans.specs.Plans.{IsPlanOf, WordsText}
 use Rattle.cargo_plans.specs.Refusals.{IsRefusal}
@@ -10,6 +10,7 @@ use Rattle.feats_files.specs.Messages.{Says}
 use Rattle.feats_files.specs.declared.fault.Fault.{Fault}
 use Rattle.plan_messages.specs.Messages.{plan_message}
 use Rattle.cargo_plans.specs.plan_steps.Plans.{PlanText}
+use Rattle.plan_widenings.specs.Findings.{is_memory}
 use Rattle.policy_answers.specs.Answers.{AreScenesOf, AreWider, IsAnswerWith, IsRefusalWith, no_check, no_plan}
 use Rattle.policy_answers.specs.Broken.{IsPolicyText, IsRulesRefusal}
 use Rattle.policy_answers.specs.QuestionViews.{printed_text}
@@ -51,6 +52,6 @@ scene_by_words asked here words given plan judged same is = record {
   is_scene = ap (λ z. scene_of here.workspace here.build.selected asked z plan judged) same;
 }
 
-pub unplanned : (asked : QuestionText) (here : SceneText) (every : Text → Bool) (wider : WordsText) (fault : PlanFault) (f : Fault) → AreWider here every wider → IsRefusal here.workspace wider fault
+pub unplanned : (asked : QuestionText) (here : SceneText) (every : Text → Bool) (wider : WordsText) (fault : PlanFault) (f : Fault) → AreWider here every wider → IsRefusal here.workspace wider fault → IsFalse (is_memory fault)
     → Says f (λ m. m ≡ plan_message here.workspace.packages fault) → Says f (IsRefusalWith here asked (Some every))
-unplanned asked here every wider fault f are is h = says_more f (λ m. m ≡ plan_message here.workspace.packages fault) (IsRefusalWith here asked (Some every)) (λ m says. no_plan every refl wider are fault is says) h
+unplanned asked here every wider fault f are is own h = says_more f (λ m. m ≡ plan_message here.workspace.packages fault) (IsRefusalWith here asked (Some every)) (λ m says. no_plan every refl wider are fault is own says) h

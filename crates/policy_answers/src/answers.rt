@@ -18,7 +18,7 @@ ghost use Rattle.policy_checks.specs.declared.judged.Judged.TheVariants.{InBuild
 use crate::planned::{Planned, Wide, all_words};
 use crate::question::{PolicyQuestion, PolicyText};
 use crate::rules::printed_rules;
-use cargo_plans::{Plan, PlanWords, plan};
+use cargo_plans::{Plan, PlanFault, PlanWords, plan};
 use cargo_workspaces::Workspace;
 use feats_files::Fault;
 use plan_messages::plan_refused;
@@ -74,6 +74,7 @@ fn answer_with_all<'w, 'n, 's>(
             drop(plan);
             printed
         }
+        Err(PlanFault::Memory) => Err(Fault::Memory),
         Err(fault) => Err(plan_refused(alloc, workspace, fault)),
     }
 }
@@ -104,6 +105,7 @@ fn answer_widely<'w, 'n, 's>(
             drop(plan);
             printed
         }
+        Err(PlanFault::Memory) => Err(Fault::Memory),
         Err(fault) => Err(plan_refused(alloc, workspace, fault)),
     }
 }

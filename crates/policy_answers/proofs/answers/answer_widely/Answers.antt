@@ -1,4 +1,4 @@
-use Rattle.std.proofs.Common.{inl}
+use Rattle.std.proofs.Common.{inl, rules}
 use Rattle.cargo_plans.specs.WordsView.{words_text}
 use Rattle.cargo_workspaces.specs.WorkspaceView.{workspace_text}
 use Rattle.plan_platforms.specs.HeldSpecs.{holds_on}
@@ -20,4 +20,4 @@ pub returns-in-Err-clause-fault : goal.returns-in-Err-clause-fault
 returns-in-Err-clause-fault c =
     let asked = question_text c.args.asked in
     let here = scene_by (workspace_text c.args.workspace.now) c.args.selected.now asked c.args.here in
-    unplanned asked here (holds_on c.args.every.now) (words_text holds_on c.all_words-words.result) c.in-Err.fault c.plan_refused.result (inl c.all_words-words.ensures) c.in-Err.ensures.fault c.plan_refused.ensures
+    unplanned asked here (holds_on c.args.every.now) (words_text holds_on c.all_words-words.result) c.in-Err.fault c.plan_refused.result (inl c.all_words-words.ensures) c.in-Err.ensures.fault (search rules) c.plan_refused.ensures

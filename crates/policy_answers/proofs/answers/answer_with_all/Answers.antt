@@ -1,4 +1,4 @@
-use Rattle.std.proofs.Common.{Some, inr}
+use Rattle.std.proofs.Common.{Some, inr, rules}
 use Rattle.cargo_plans.specs.WordsView.{words_text}
 use Rattle.cargo_workspaces.specs.WorkspaceView.{workspace_text}
 use Rattle.plan_platforms.specs.HeldSpecs.{holds_on}
@@ -42,4 +42,4 @@ returns-in-Err-clause-fault c =
     let asked = question_text c.args.asked in
     let every = holds_on c.args.every.now in
     let here = scene_by w c.args.selected.now asked c.args.here in
-    unplanned asked here every (words_text holds_on c.widened-words.result) c.in-Err.fault c.plan_refused.result (inr c.widened-words.ensures) c.in-Err.ensures.fault c.plan_refused.ensures
+    unplanned asked here every (words_text holds_on c.widened-words.result) c.in-Err.fault c.plan_refused.result (inr c.widened-words.ensures) c.in-Err.ensures.fault (search rules) c.plan_refused.ensures
