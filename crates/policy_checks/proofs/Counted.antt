@@ -24,10 +24,6 @@ built_spots (Ok v) view b on parts spots visit same e =
     ∙ ap (λ (f : Side → ℕ → Bool). filter (λ (s : SpotText). is_spot_on b s && f s.side s.number) spots) same
 built_spots (Err x) view b on parts spots visit same e = tt
 
--- unless it is for every choice, these count
-pub built_count : (b : BuildText) (spots : List SpotText) → is_every b.judged ≡ false → filter (is_spot_built b) spots ≡ filter (counts b) spots
-built_count b spots e = ap (λ (w : Bool). filter (λ (s : SpotText). is_spot_on b s && (w || is_built_on b s.side s.number)) spots) (sym e)
-
 and_true : (a : Bool) → a ≡ (a && true)
 and_true true = refl
 and_true false = refl
@@ -47,12 +43,6 @@ pub every_spots : {V E : Type 0} (r : Result V E) (view : V → List SpotText) (
     → IfOk r (λ v. view v ≡ filter (passes on Everywhere) spots) → IfOk r (λ v. view v ≡ filter (counts b) spots)
 every_spots (Ok v) view b on spots visit every e = e ∙ ap (λ (o : PairVisit). filter (passes o Everywhere) spots) visit ∙ on_count b spots every
 every_spots (Err x) view b on spots visit every e = tt
-
--- and what is built, where it doesn't
-pub build_spots : {V E : Type 0} (r : Result V E) (view : V → List SpotText) (b : BuildText) (spots : List SpotText) → is_every b.judged ≡ false
-    → IfOk r (λ v. view v ≡ filter (is_spot_built b) spots) → IfOk r (λ v. view v ≡ filter (counts b) spots)
-build_spots (Ok v) view b spots other e = e ∙ built_count b spots other
-build_spots (Err x) view b spots other e = tt
 
 -- the packages that are built
 pub among_built : {V E : Type 0} (r : Result V E) (view : V → List ℕ) (b : BuildText) (parts : BuiltParts) (numbers : List ℕ) → builds_in parts ≡ is_built b.split b.plan.units

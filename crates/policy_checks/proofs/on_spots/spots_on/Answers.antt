@@ -5,7 +5,7 @@ use Rattle.plan_whys.specs.StepViews.{spot_text}
 use Rattle.policy_checks.specs.Builds.{is_every}
 use Rattle.policy_checks.specs.Spots.{on_both_sides}
 use Rattle.policy_checks.specs.Views.{build_text}
-use Rattle.policy_checks.proofs.Counted.{build_spots, every_spots}
+use Rattle.policy_checks.proofs.Counted.{every_spots}
 use Rattle.policy_checks.proofs.on_spots.spots_on.Goals as goal
 
 pub returns-in-ForEveryChoice : goal.returns-in-ForEveryChoice
