@@ -27,11 +27,18 @@ pub record IsAnswerWith (here : SceneText) (asked : QuestionText) (every : Optio
 abbrev pub AreWider : SceneText → (Text → Bool) → WordsText → Type 0
 AreWider here holds words = (words ≡ all_words holds here.words) ⊎ (words ≡ widest_words holds here.words)
 
--- Wider words have no plan, by a fault that isn't out of memory; or a rule can't be checked.
+-- The message why words have no plan. The fault isn't out of memory.
+pub record IsUnplanned (w : WorkspaceText) (words : WordsText) (message : Text) : Type 0 where
+  pub fault : PlanFault
+  pub is_refused : IsRefusal w words fault
+  pub is_own : IsFalse (is_memory fault)
+  pub is_message : message ≡ plan_message w.packages fault
+
+-- Wider words have no plan, or a rule can't be checked.
 pub data IsRefusalWith (here : SceneText) (asked : QuestionText) (every : Option (Text → Bool)) (message : Text) : Type 0 where
   no_plan :
-      (holds : Text → Bool) → every ≡ Some holds → (wider : WordsText) → AreWider here holds wider → (fault : PlanFault) → IsRefusal here.workspace wider fault
-      → IsFalse (is_memory fault) → message ≡ plan_message here.workspace.packages fault → IsRefusalWith here asked every message
+      (holds : Text → Bool) → every ≡ Some holds → (wider : WordsText) → AreWider here holds wider → IsUnplanned here.workspace wider message
+      → IsRefusalWith here asked every message
   no_check : (scenes : ScenesText) → AreScenesOf here asked every scenes → IsRulesRefusal asked scenes message → IsRefusalWith here asked every message
 
 -- THE ANSWER about a build, with this plan of the words.
