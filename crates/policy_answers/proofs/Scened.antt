@@ -1,11 +1,11 @@
 -- The answer from what is printed by some scenes.
-use Rattle.std.proofs.Common.{◌≡◌, ap, refl, inl, inr, subst, List, ℕ, Bool, Option, Some, None, Result, Ok, Err}
+use Rattle.std.proofs.Common.{◌≡◌, ap, refl, inl, inr, subst, Bool, Option, Some, None, Result, Ok, Err}
 use Rattle.std.specs.Prelude.{IfOk, IfErr}
 use Rattle.std.proofs.lemmas.Result.{IfOk-weaker}
 use Rattle.cargo_plans.specs.Plans.{IsPlanOf, WordsText}
 use Rattle.cargo_plans.specs.WordsView.{words_text}
 use Rattle.cargo_plans.specs.plan_steps.PlanViews.{plan_text}
-use Rattle.cargo_workspaces.specs.Workspaces.{Text, WorkspaceText}
+use Rattle.cargo_workspaces.specs.Workspaces.{Text}
 use Rattle.feats_files.specs.Messages.{Says}
 use Rattle.feats_files.specs.declared.fault.Fault.{Fault}
 use Rattle.cargo_plans.specs.plan_steps.Plans.{PlanText}
