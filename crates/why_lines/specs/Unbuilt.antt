@@ -25,11 +25,14 @@ abbrev pub lacking_text : List PackageText → Bool → Option ℕ → Text
 lacking_text packages sides None = []
 lacking_text packages sides (Some p) = codes ": " ++ (spot_label packages sides (base_at Target p) ++ codes " has no build script")
 
+-- The message about a spot: it is asked for, and its package isn't built.
+abbrev pub unbuilt_message : List PackageText → Bool → UnbuiltText → Text
+unbuilt_message packages sides u =
+    codes "asked for, but " ++ (spot_label packages sides (base_at u.spot.side u.spot.number) ++ (codes " isn't built" ++ lacking_text packages sides u.lacking))
+
 -- The line of a spot.
 abbrev pub unbuilt_line : List PackageText → Bool → UnbuiltText → Text
-unbuilt_line packages sides u =
-    spot_label packages sides u.spot ++ (codes " is asked for, but " ++ (spot_label packages sides (base_at u.spot.side u.spot.number)
-    ++ (codes " isn't built" ++ (lacking_text packages sides u.lacking ++ codes "\n"))))
+unbuilt_line packages sides u = spot_label packages sides u.spot ++ (codes " is " ++ (unbuilt_message packages sides u ++ codes "\n"))
 
 abbrev pub unbuilt_lines : List PackageText → Bool → List UnbuiltText → Text
 unbuilt_lines packages sides list = flat_map (unbuilt_line packages sides) list

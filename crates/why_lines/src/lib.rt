@@ -20,4 +20,4 @@ pub use reason_objects::reasoned_objects;
 pub use reason_rows::reasoned_lines;
 pub use settings::WhySettings;
 pub use table::{each_why_lines, why_lines};
-pub use unbuilt::{UnbuiltSpot, unbuilt_lines};
+pub use unbuilt::{UnbuiltSpot, unbuilt_lines, unbuilt_message};

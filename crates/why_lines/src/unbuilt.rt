@@ -54,10 +54,28 @@ fn push_lacking(
         Some(package) => {
             text.push_str(": ")?;
             push_base(alloc, text, labels, Side::Target, package)?;
-            text.push_str(" has no build script")
+            text.push_str(" has no build script")?;
+            Ok(())
         }
         None => Ok(()),
     }
+}
+
+/// Appends the message about `unbuilt`: its package isn't built, and why if it is known.
+fn push_message(
+    alloc: Global,
+    text: &mut String,
+    labels: &Labels<'_, '_>,
+    unbuilt: UnbuiltSpot<'_>,
+) -> Result<(), AllocError>
+    requires { AreLabels labels.now }
+    ensures { OnOk result (string_bytes text.new ≡ string_bytes text.old ++ spec.unbuilt_message (packages_of labels.now) labels.now.sides (spec.unbuilt_text unbuilt.entry)) }
+{
+    let spot = unbuilt.spot;
+    text.push_str("asked for, but ")?;
+    push_base(alloc, text, labels, spot.side, spot.package)?;
+    text.push_str(" isn't built")?;
+    push_lacking(alloc, text, labels, unbuilt.lacking)
 }
 
 /// Appends the line of `unbuilt`.
@@ -70,13 +88,11 @@ fn push_unbuilt(
     requires { AreLabels labels.now }
     ensures { OnOk result (string_bytes text.new ≡ string_bytes text.old ++ spec.unbuilt_line (packages_of labels.now) labels.now.sides (spec.unbuilt_text unbuilt.entry)) }
 {
-    let spot = unbuilt.spot;
-    push_spot(alloc, text, labels, spot)?;
-    text.push_str(" is asked for, but ")?;
-    push_base(alloc, text, labels, spot.side, spot.package)?;
-    text.push_str(" isn't built")?;
-    push_lacking(alloc, text, labels, unbuilt.lacking)?;
-    text.push_str("\n")
+    push_spot(alloc, text, labels, unbuilt.spot)?;
+    text.push_str(" is ")?;
+    push_message(alloc, text, labels, unbuilt)?;
+    text.push_str("\n")?;
+    Ok(())
 }
 
 /// Appends the lines of `list`.
@@ -109,5 +125,22 @@ pub fn unbuilt_lines(
     let labels = labels_of(alloc, workspace.packages(), &versions, sides)?;
     let mut text = String::new(alloc);
     push_all(alloc, &mut text, &labels, list)?;
+    Ok(text)
+}
+
+/// Returns the message about `unbuilt`, a spot in `workspace`: it is asked for and its package isn't built, and why if it is known. If
+/// `sides` is true, ` (host)` follows a package on the host side.
+pub fn unbuilt_message(
+    alloc: Global,
+    workspace: &Workspace<'_>,
+    sides: bool,
+    unbuilt: UnbuiltSpot<'_>,
+) -> Result<String, AllocError>
+    ensures { IfOk result (λ text. string_bytes text ≡ spec.unbuilt_message (workspace_text workspace.now).packages sides (spec.unbuilt_text unbuilt.entry)) }
+{
+    let versions = names_of(alloc, workspace.packages())?;
+    let labels = labels_of(alloc, workspace.packages(), &versions, sides)?;
+    let mut text = String::new(alloc);
+    push_message(alloc, &mut text, &labels, unbuilt)?;
     Ok(text)
 }

@@ -30,9 +30,9 @@ use Rattle.why_nots.specs.Parts.{PartText, spot_on}
 use Rattle.why_nots.specs.Standings as standing
 use Rattle.why_nots.specs.Standings.{StandingText, standing_in, standing_of}
 use Rattle.why_nots.specs.Texts.{IsSection}
-use Rattle.why_nots.specs.Unbuilt.{message_if, unbuilt_message}
+use Rattle.why_nots.specs.Unbuilt.{message_if}
 use Rattle.why_nots.specs.declared.parts.OffPart.{OffPart}
-use Rattle.why_nots.specs.inner.Lists.{answer_by, answer_sections, answers_by, first_spot, has_part, message_about, same_sections, side_where}
+use Rattle.why_nots.specs.inner.Lists.{answer_by, answer_sections, answers_by, first_spot, has_part, message_about, message_by, same_sections, side_where}
 use Rattle.why_nots.proofs.StandingLemmas.{built_is_on, off_is_off}
 
 true_or : (a b : Bool) → (a || b) ≡ false → (a ≡ false) × (b ≡ false)
@@ -64,8 +64,8 @@ module _ (w : WorkspaceText) (words : WordsText) (plan : PlanText) (states : Sid
     (lacks : (q : ℕ) → lacking q ≡ lacking_in w words plan q) where
   message_is : (p : PartText) → message_about w.packages words.selection.split lacking states p ≡ message_in w words plan p
   message_is p =
-      ap (λ (q : Option ℕ). message_if (unbuilt_message w.packages words.selection.split q p.number) (standing_in states p)) (lacks p.number)
-      ∙ ap (λ (s : Side → ℕ → LabelName → PartState). message_if (message_on w words plan p) (standing_in s p)) same
+      ap (λ (q : Option ℕ). message_by w.packages words.selection.split q p (standing_in states p)) (lacks p.number)
+      ∙ ap (λ (s : Side → ℕ → LabelName → PartState). message_by w.packages words.selection.split (lacking_in w words plan p.number) p (standing_in s p)) same
 
   messages_in : (parts : List PartText) → map (message_about w.packages words.selection.split lacking states) parts ≡ map (message_in w words plan) parts
   messages_in [] = refl

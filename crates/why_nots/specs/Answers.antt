@@ -12,9 +12,10 @@ use Rattle.plan_rows.specs.declared.side.Side.{Side}
 use Rattle.plan_whys.specs.Steps.{WhyText}
 use Rattle.plan_whys.specs.Whys.{AnswersBy}
 use Rattle.plan_widenings.specs.Findings.{IsOff, is_memory}
+use Rattle.why_lines.specs.Unbuilt.{unbuilt_message}
 use Rattle.why_nots.specs.Parts.{PartText, spot_on}
 use Rattle.why_nots.specs.Standings.{built_on, standing_of, unbuilt_on}
-use Rattle.why_nots.specs.Unbuilt.{message_if, unbuilt_message}
+use Rattle.why_nots.specs.Unbuilt.{message_if, unbuilt_at}
 
 -- The steps to the part, if it is built; the message about it, if it is on and isn't built; that it is off; or the message why there is no
 -- plan.
@@ -36,8 +37,9 @@ pub record IsExplained (w : WorkspaceText) (words : WordsText) (part : PartText)
 abbrev pub lacking_in : WorkspaceText → WordsText → PlanText → ℕ → Option ℕ
 lacking_in w words plan q = lacking_script (is_part_built words.selection.split plan) words.host w.packages q
 
+-- The message about a part that is on, on the side, in the plan of the words and isn't built.
 abbrev pub message_on : WorkspaceText → WordsText → PlanText → PartText → Side → Text
-message_on w words plan part side = unbuilt_message w.packages words.selection.split (lacking_in w words plan part.number) part.number side
+message_on w words plan part side = unbuilt_message w.packages words.selection.split (unbuilt_at (lacking_in w words plan part.number) part side)
 
 -- The message about a part, if it is on in the plan of the words and isn't built.
 abbrev pub message_in : WorkspaceText → WordsText → PlanText → PartText → Option Text

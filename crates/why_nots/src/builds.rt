@@ -8,16 +8,17 @@ ghost use Rattle.cargo_plans.specs.plan_steps.PlanViews.{plan_text};
 ghost use Rattle.cargo_workspaces.specs.WorkspaceView.{workspace_text};
 ghost use Rattle.plan_platforms.specs.HeldSpecs.{holds_on};
 ghost use Rattle.why_nots.specs.PartView.{part_text};
+ghost use Rattle.why_nots.specs.StandingView.{standing_text};
 ghost use Rattle.why_nots.specs.inner.Lists as spec;
 
-use crate::parts::OffPart;
-use crate::standings::standing_of;
-use crate::unbuilt::message_if;
+use crate::parts::{OffPart, spot_on};
+use crate::standings::{Standing, standing_of};
 use built_parts::{BuiltParts, LackingScripts};
 use cargo_plans::{Plan, PlanWords};
 use cargo_workspaces::Workspace;
 use plan_platforms::HeldSpecs;
 use std::alloc::{AllocError, Global};
+use why_lines::{UnbuiltSpot, unbuilt_message};
 
 /// What a plan builds, and the build scripts that packages lack there.
 #[derive(Drop)]
@@ -50,6 +51,27 @@ pub(crate) fn builds_of<'p>(
     })
 }
 
+/// Returns the message about `part`, which stands so, if it is on and isn't built. Package `lacking` lacks a build script for it.
+fn message_by(
+    alloc: Global,
+    workspace: &Workspace<'_>,
+    sides: bool,
+    lacking: Option<usize>,
+    part: OffPart<'_>,
+    standing: Standing,
+) -> Result<Option<String>, AllocError>
+    ensures { IfOk result (λ message. option_map string_bytes message ≡ spec.message_by (workspace_text workspace.now).packages sides lacking (part_text part.entry) (standing_text standing)) }
+{
+    match standing {
+        Standing::BuiltOn(_) | Standing::Off => Ok(None),
+        Standing::UnbuiltOn(side) => {
+            let spot = spot_on(side, part);
+            let unbuilt = UnbuiltSpot { spot, lacking };
+            Ok(Some(unbuilt_message(alloc, workspace, sides, unbuilt)?))
+        }
+    }
+}
+
 /// Returns the message about `part`, if it is on and isn't built.
 fn message_about(
     alloc: Global,
@@ -61,14 +83,7 @@ fn message_about(
 {
     let standing = standing_of(&builds.parts, part);
     let lacking = builds.scripts.of_package(part.package);
-    message_if(
-        alloc,
-        workspace,
-        builds.split,
-        lacking,
-        part.package,
-        standing,
-    )
+    message_by(alloc, workspace, builds.split, lacking, part, standing)
 }
 
 /// Returns the message about each of `parts` that is on and isn't built.

@@ -14,7 +14,6 @@ mod settings;
 mod spots;
 mod standings;
 mod texts;
-mod unbuilt;
 mod widened_sections;
 
 pub use parts::OffPart;

@@ -101,10 +101,11 @@ fn with_sections(
     joined(alloc, texts, &sections)
 }
 
-/// Returns the texts about `parts`, which aren't built by `words`, whose plan is `plan`: for each widening of the selection, whether the part
-/// is built there, and why; that it is on there and isn't built; or why there is no plan. If a part is off with all of them together, the last
-/// line of its text says that no choice of members, features of members, tests and platforms turns it on. `every` is the platform on which each platform spec of `workspace` holds. A widening
-/// that adds to the words needs one plan.
+/// Returns a text about each of `parts`, which aren't built by `words`, whose plan is `plan`. For each widening of the selection it says
+/// whether the part is built there, and why; that it is on there and isn't built; that it is off; or why there is no plan. If a part is
+/// off with all of them together, the last line of its text says that no choice of members, features of members, tests and platforms
+/// turns it on. `every` is the platform on which each platform spec of `workspace` holds. A widening that adds to the words needs one
+/// plan.
 pub fn why_not_texts<'n, 's>(
     alloc: Global,
     form: Format,

@@ -2,6 +2,7 @@
 use Rattle.std.proofs.Common.{◌≡◌, ℕ, [], ◌∷◌, ◌++◌, Bool, true, false, Option, None, Some, refl, sym, ap, ◌∙◌, subst, if◌then◌else◌, codes}
 use Rattle.std.specs.Prelude.{◌==◌, ◌&&◌}
 use Rattle.cargo_workspaces.specs.Workspaces.{Text}
+use Rattle.shown_texts.specs.Shown.{escaped}
 use Rattle.widening_lines.specs.Lines.{SaidText, closing, head_line, heading, indented_from, is_line_feed, message_line, not_planned, off, on_by, said_lines, sentence, unbuilt, why_not_lines, widening_lines}
 use Rattle.widening_lines.specs.Laws.{SentenceSaysOff}
 use Rattle.plan_widenings.specs.declared.widening.Widening.{Widening}
@@ -162,11 +163,12 @@ after_line : (s : Lines) (line : Text) → IsBegun (scan s (line ++ codes "\n"))
 after_line s line = record { ended = is_marked (scan s line).line; are_lines = scan_append s line (codes "\n") }
 
 after_head : (name : Text) (message : Option Text) → IsBegun (scan (at false empty) (head_line name message))
-after_head name None = subst (λ s. IsBegun s) (sym (scan_append (at false empty) name (codes " is off\n"))) (after_line (scan (at false empty) name) (codes " is off"))
+after_head name None =
+    subst (λ s. IsBegun s) (sym (scan_append (at false empty) (escaped name) (codes " is off\n"))) (after_line (scan (at false empty) (escaped name)) (codes " is off"))
 after_head name (Some message) =
-    subst (λ s. IsBegun s) (sym (scan_append (at false empty) name (message_line (codes " is ") message)
-    ∙ scan_append (scan (at false empty) name) (codes " is ") (indented_from false message ++ codes "\n")))
-    (after_line (scan (scan (at false empty) name) (codes " is ")) (indented_from false message))
+    subst (λ s. IsBegun s) (sym (scan_append (at false empty) (escaped name) (message_line (codes " is ") message)
+    ∙ scan_append (scan (at false empty) (escaped name)) (codes " is ") (indented_from false message ++ codes "\n")))
+    (after_line (scan (scan (at false empty) (escaped name)) (codes " is ")) (indented_from false message))
 
 -- THE WHOLE TEXT, if the sentence doesn't follow all widenings together.
 then_widening : (v : Widening) (said : SaidText) → is_closed v said ≡ false → (s : Lines) → IsOther false s → IsOther false (scan s (widening_lines v said))

@@ -15,12 +15,13 @@ use Rattle.plan_whys.specs.StepViews.{why_text}
 use Rattle.plan_whys.specs.Steps.{SpotText, WhyText}
 use Rattle.plan_widenings.specs.Findings.{are_some, sides_of}
 use Rattle.plan_widenings.specs.declared.widening.Widening.{Widening}
+use Rattle.why_lines.specs.Unbuilt.{unbuilt_message}
 use Rattle.why_nots.specs.Answers.{AnswerText, explained, not_planned, off, unbuilt}
 use Rattle.why_nots.specs.Parts.{PartText, spot_on}
 use Rattle.why_nots.specs.Standings as standing
 use Rattle.why_nots.specs.Standings.{StandingText, standing_in}
 use Rattle.why_nots.specs.Texts.{head_by, section_text}
-use Rattle.why_nots.specs.Unbuilt.{message_if, unbuilt_message}
+use Rattle.why_nots.specs.Unbuilt.{message_if, unbuilt_at}
 use Rattle.why_nots.specs.declared.answer.Answer.{Answer}
 use Rattle.why_nots.specs.declared.answer.Answer.TheVariants as answer
 
@@ -59,9 +60,13 @@ side_where standing.off = Target
 abbrev pub first_spot : (Side → ℕ → LabelName → PartState) → PartText → SpotText
 first_spot states part = spot_on (side_where (standing_in states part)) part
 
--- The message about a part that isn't built, by the packages that lack build scripts.
+-- The message about a part that stands so, by the package that lacks a build script for the part's package.
+abbrev pub message_by : List PackageText → Bool → Option ℕ → PartText → StandingText → Option Text
+message_by packages sides lacking part standing = message_if (λ side. unbuilt_message packages sides (unbuilt_at lacking part side)) standing
+
+-- The message about a part that isn't built, by the states of parts and by the packages that lack build scripts.
 abbrev pub message_about : List PackageText → Bool → (ℕ → Option ℕ) → (Side → ℕ → LabelName → PartState) → PartText → Option Text
-message_about packages sides lacking states part = message_if (unbuilt_message packages sides (lacking part.number) part.number) (standing_in states part)
+message_about packages sides lacking states part = message_by packages sides (lacking part.number) part (standing_in states part)
 
 abbrev pub answer_section : Format → List PackageText → WordsText → Widening → PartText × AnswerText → Text
 answer_section form packages words v pair = section_text form packages words v pair.0 pair.1

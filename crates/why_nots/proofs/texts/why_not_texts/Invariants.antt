@@ -1,6 +1,7 @@
 use Rattle.std.proofs.Common.{map, take}
 use Rattle.std.specs.List.{AllZip}
 use Rattle.cargo_plans.specs.WordsView.{words_text}
+use Rattle.cargo_plans.specs.plan_steps.PlanViews.{plan_text}
 use Rattle.cargo_workspaces.specs.WorkspaceView.{workspace_text}
 use Rattle.plan_platforms.specs.HeldSpecs.{holds_on}
 use Rattle.plan_widenings.specs.Widenings.{widened}
@@ -13,5 +14,6 @@ use Rattle.why_nots.proofs.texts.why_not_texts.Given as goal
 abbrev pub invariant-loop-widening : goal.invariant-loop-widening
 invariant-loop-widening l =
     let w = workspace_text l.workspace in
-    AllZip (IsSo (λ part v text. IsSection l.form w (widened (holds_on l.every) v (words_text holds_on l.words)) v part text) (head_text l.form w.packages) (take l.widening-index l.widening-items))
+    let words = words_text holds_on l.words in
+    AllZip (IsSo (λ part v text. IsSection l.form w (widened (holds_on l.every) v words) v part text) (head_text l.form w words (plan_text l.plan)) (take l.widening-index l.widening-items))
     (map part_text l.parts) (texts_of l.texts.items)
