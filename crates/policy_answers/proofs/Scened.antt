@@ -1,21 +1,24 @@
 -- The answer from what is printed by some scenes.
-use Rattle.std.proofs.Common.{◌≡◌, ap, refl, subst, List, ℕ, Bool, Option, Some, None, Result, Ok, Err}
+use Rattle.std.proofs.Common.{◌≡◌, ap, refl, inl, inr, subst, Bool, Option, Some, None, Result, Ok, Err}
 use Rattle.std.specs.Prelude.{IfOk, IfErr}
 use Rattle.std.proofs.lemmas.Result.{IfOk-weaker}
 use Rattle.cargo_plans.specs.Plans.{IsPlanOf, WordsText}
-use Rattle.cargo_plans.specs.Refusals.{IsRefusal}
-use Rattle.cargo_plans.specs.declared.fault.PlanFault.{PlanFault}
-use Rattle.cargo_workspaces.specs.Workspaces.{Text, WorkspaceText}
+use Rattle.cargo_plans.specs.WordsView.{words_text}
+use Rattle.cargo_plans.specs.plan_steps.PlanViews.{plan_text}
+use Rattle.cargo_workspaces.specs.Workspaces.{Text}
 use Rattle.feats_files.specs.Messages.{Says}
 use Rattle.feats_files.specs.declared.fault.Fault.{Fault}
-use Rattle.plan_messages.specs.Messages.{plan_message}
 use Rattle.cargo_plans.specs.plan_steps.Plans.{PlanText}
-use Rattle.policy_answers.specs.Answers.{AreScenesOf, AreWider, IsAnswerWith, IsRefusalWith, no_check, no_plan}
+use Rattle.plan_platforms.specs.HeldSpecs.{holds_on}
+use Rattle.policy_answers.specs.Answers.{AreScenesOf, IsAnswerWith, IsRefusalWith, no_check, no_plan}
 use Rattle.policy_answers.specs.Broken.{IsPolicyText, IsRulesRefusal}
 use Rattle.policy_answers.specs.QuestionViews.{printed_text}
 use Rattle.policy_answers.specs.Questions.{QuestionText}
 use Rattle.policy_answers.specs.Scenes.{IsSceneBy, SceneText, ScenesText, all_words, scene_of, widest_words}
+use Rattle.policy_answers.specs.declared.planned.WidePlans.{WidePlans}
+use Rattle.policy_answers.specs.declared.planned.WideWords.{WideWords}
 use Rattle.policy_answers.specs.declared.question.PolicyText.{PolicyText}
+use Rattle.policy_answers.specs.inner.WidePlans.{AreWidePlans, IsNoWidePlan, scenes_with}
 use Rattle.policy_checks.specs.declared.judged.Judged.{Judged}
 use Rattle.policy_checks.specs.declared.judged.Judged.TheVariants.{ForEveryChoice, WithAll}
 use Rattle.policy_answers.proofs.Refusals.{says_more}
@@ -36,12 +39,6 @@ module _ (asked : QuestionText) (here : SceneText) (every : Option (Text → Boo
 pub alone : (asked : QuestionText) (here : SceneText) → AreScenesOf here asked None (record { here = here; wide = None })
 alone asked here = record { is_here = refl; are_wide = tt }
 
--- and for every choice
-pub with_wide : (asked : QuestionText) (here all widest : SceneText) (every : Text → Bool) → IsSceneBy here asked (all_words every here.words) WithAll all
-    → IsSceneBy here asked (widest_words every here.words) ForEveryChoice widest
-    → AreScenesOf here asked (Some every) (record { here = here; wide = Some (record { all = all; widest = widest }) })
-with_wide asked here all widest every is_all is_widest = record { is_here = refl; are_wide = (is_all, is_widest) }
-
 -- the scene of a plan of words that are equal
 pub scene_by_words : (asked : QuestionText) (here : SceneText) (words given : WordsText) (plan : PlanText) (judged : Judged) → given ≡ words → IsPlanOf here.workspace given plan
     → IsSceneBy here asked words judged (scene_of here.workspace here.build.selected asked given plan judged)
@@ -51,6 +48,20 @@ scene_by_words asked here words given plan judged same is = record {
   is_scene = ap (λ z. scene_of here.workspace here.build.selected asked z plan judged) same;
 }
 
-pub unplanned : (asked : QuestionText) (here : SceneText) (every : Text → Bool) (wider : WordsText) (fault : PlanFault) (f : Fault) → AreWider here every wider → IsRefusal here.workspace wider fault
-    → Says f (λ m. m ≡ plan_message here.workspace.packages fault) → Says f (IsRefusalWith here asked (Some every))
-unplanned asked here every wider fault f are is h = says_more f (λ m. m ≡ plan_message here.workspace.packages fault) (IsRefusalWith here asked (Some every)) (λ m says. no_plan every refl wider are fault is says) h
+-- the scenes by the plans of wider words
+pub are_wide_scenes : (asked : QuestionText) (here : SceneText) (every : Text → Bool) (words : WideWords) (plans : WidePlans)
+    → words_text holds_on words.all ≡ all_words every here.words → words_text holds_on words.widest ≡ widest_words every here.words
+    → AreWidePlans here.workspace words plans → AreScenesOf here asked (Some every) (scenes_with here asked words plans)
+are_wide_scenes asked here every words plans all widest are = record {
+  is_here = refl;
+  are_wide = (
+    scene_by_words asked here (all_words every here.words) (words_text holds_on words.all) (plan_text plans.all) WithAll all are.all,
+    scene_by_words asked here (widest_words every here.words) (words_text holds_on words.widest) (plan_text plans.widest) ForEveryChoice widest are.widest,
+  );
+}
+
+-- no plan of wider words
+pub unplanned : (asked : QuestionText) (here : SceneText) (every : Text → Bool) (words : WideWords) (m : Text) → words_text holds_on words.all ≡ all_words every here.words
+    → words_text holds_on words.widest ≡ widest_words every here.words → IsNoWidePlan here.workspace words m → IsRefusalWith here asked (Some every) m
+unplanned asked here every words m all widest (inl is) = no_plan every refl (words_text holds_on words.all) (inl all) is
+unplanned asked here every words m all widest (inr is) = no_plan every refl (words_text holds_on words.widest) (inr widest) is

@@ -1,11 +1,12 @@
 -- The answer to a question about a policy.
-use Rattle.std.specs.Prelude.{◌≡◌, ◌⊎◌, Bool, Option, Some}
+use Rattle.std.specs.Prelude.{◌≡◌, ◌⊎◌, Bool, IsFalse, Option, Some}
 use Rattle.cargo_plans.specs.Plans.{AfterWords, WordsText}
 use Rattle.cargo_plans.specs.Refusals.{IsRefusal}
 use Rattle.cargo_plans.specs.declared.fault.PlanFault.{PlanFault}
 use Rattle.cargo_workspaces.specs.Workspaces.{Text, WorkspaceText}
 use Rattle.plan_messages.specs.Messages.{plan_message}
 use Rattle.cargo_plans.specs.plan_steps.Plans.{PlanText}
+use Rattle.plan_widenings.specs.Findings.{is_memory}
 use Rattle.policy_answers.specs.Broken.{IsPolicyText, IsRulesRefusal}
 use Rattle.policy_answers.specs.Questions.{PrintedText, QuestionText}
 use Rattle.policy_answers.specs.Scenes.{AreWideScenes, SceneText, ScenesText, all_words, scene_of, widest_words}
@@ -26,11 +27,18 @@ pub record IsAnswerWith (here : SceneText) (asked : QuestionText) (every : Optio
 abbrev pub AreWider : SceneText → (Text → Bool) → WordsText → Type 0
 AreWider here holds words = (words ≡ all_words holds here.words) ⊎ (words ≡ widest_words holds here.words)
 
+-- The message why words have no plan. The fault isn't out of memory.
+pub record IsUnplanned (w : WorkspaceText) (words : WordsText) (message : Text) : Type 0 where
+  pub fault : PlanFault
+  pub is_refused : IsRefusal w words fault
+  pub is_own : IsFalse (is_memory fault)
+  pub is_message : message ≡ plan_message w.packages fault
+
 -- Wider words have no plan, or a rule can't be checked.
 pub data IsRefusalWith (here : SceneText) (asked : QuestionText) (every : Option (Text → Bool)) (message : Text) : Type 0 where
   no_plan :
-      (holds : Text → Bool) → every ≡ Some holds → (wider : WordsText) → AreWider here holds wider → (fault : PlanFault) → IsRefusal here.workspace wider fault
-      → message ≡ plan_message here.workspace.packages fault → IsRefusalWith here asked every message
+      (holds : Text → Bool) → every ≡ Some holds → (wider : WordsText) → AreWider here holds wider → IsUnplanned here.workspace wider message
+      → IsRefusalWith here asked every message
   no_check : (scenes : ScenesText) → AreScenesOf here asked every scenes → IsRulesRefusal asked scenes message → IsRefusalWith here asked every message
 
 -- THE ANSWER about a build, with this plan of the words.

@@ -2,3 +2,4 @@
 pub mod Firsts
 pub mod Grown
 pub mod PlannedViews
+pub mod WidePlans

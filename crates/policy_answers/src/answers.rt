@@ -9,77 +9,52 @@ ghost use Rattle.cargo_plans.specs.plan_steps.PlanViews.{plan_text};
 ghost use Rattle.policy_answers.specs.Answers as spec;
 ghost use Rattle.policy_answers.specs.Broken.{IsPolicyText, IsRulesRefusal};
 ghost use Rattle.policy_answers.specs.QuestionViews.{printed_text, question_text};
-ghost use Rattle.policy_answers.specs.Scenes.{IsScene, IsSceneBy, scene_of};
-ghost use Rattle.policy_answers.specs.Scenes as scenes;
-ghost use Rattle.policy_answers.specs.inner.Grown.{AreWide};
-ghost use Rattle.policy_answers.specs.inner.PlannedViews.{scene_by, scenes_by, wide_by};
-ghost use Rattle.policy_checks.specs.declared.judged.Judged.TheVariants.{InBuild, WithAll};
+ghost use Rattle.policy_answers.specs.Scenes.{IsScene, scene_of};
+ghost use Rattle.policy_answers.specs.inner.PlannedViews.{scene_by};
+ghost use Rattle.policy_answers.specs.inner.WidePlans.{AreWidePlans, scenes_with};
+ghost use Rattle.policy_checks.specs.declared.judged.Judged.TheVariants.{InBuild};
 
-use crate::planned::{Planned, Wide, all_words};
+use crate::planned::{Planned, Wide, WidePlans, WideWords, wide_plans, wide_words};
 use crate::question::{PolicyQuestion, PolicyText};
 use crate::rules::printed_rules;
-use cargo_plans::{Plan, PlanWords, plan};
+use cargo_plans::{Plan, PlanWords};
 use cargo_workspaces::Workspace;
 use feats_files::Fault;
-use plan_messages::plan_refused;
 use plan_platforms::HeldSpecs;
-use plan_widenings::{Widening, widened};
 use plan_words::choose;
 use policy_checks::Judged;
 use std::alloc::Global;
 
-/// Returns the answer for every choice, by the plans of `wide`.
+/// Returns the answer for every choice, by the plans of the wider `words`.
 fn printed_with(
     alloc: Global,
     asked: PolicyQuestion<'_, '_, '_, '_>,
     workspace: &Workspace<'_>,
     selected: &[usize],
     here: Planned<'_, '_, '_, '_, '_>,
-    wide: Wide<'_, '_, '_, '_, '_>,
+    words: &WideWords<'_, '_, '_>,
+    plans: &WidePlans<'_>,
 ) -> Result<PolicyText, Fault>
     requires here { IsScene (scene_by (workspace_text workspace.now) selected.now (question_text asked) here) }
-    requires wide { AreWide (wide_by (workspace_text workspace.now) selected.now (question_text asked) wide) }
-    ensures text { IfOk result (λ printed. IsPolicyText (question_text asked.entry) (scenes_by (workspace_text workspace.now) selected.now (question_text asked.entry) here.entry (Some wide.entry)) (printed_text printed)) }
-    ensures fault { IfErr result (λ fault. Says fault (IsRulesRefusal (question_text asked.entry) (scenes_by (workspace_text workspace.now) selected.now (question_text asked.entry) here.entry (Some wide.entry)))) }
+    requires wide { AreWidePlans (workspace_text workspace.now) words.now plans.now }
+    ensures text { IfOk result (λ printed. IsPolicyText (question_text asked.entry) (scenes_with (scene_by (workspace_text workspace.now) selected.now (question_text asked.entry) here.entry) (question_text asked.entry) words.now plans.now) (printed_text printed)) }
+    ensures fault { IfErr result (λ fault. Says fault (IsRulesRefusal (question_text asked.entry) (scenes_with (scene_by (workspace_text workspace.now) selected.now (question_text asked.entry) here.entry) (question_text asked.entry) words.now plans.now))) }
 {
-    printed_rules(alloc, asked, workspace, selected, here, Some(wide))
+    let all = Planned {
+        words: &words.all,
+        plan: &plans.all,
+        judged: Judged::WithAll,
+    };
+    let widest = Planned {
+        words: &words.widest,
+        plan: &plans.widest,
+        judged: Judged::ForEveryChoice,
+    };
+    let wide = Some(Wide { all, widest });
+    printed_rules(alloc, asked, workspace, selected, here, wide)
 }
 
-/// Returns the answer for every choice. `all` is the plan with all members, features and tests, and each platform spec holds on the platform
-/// `every`. The function makes the plan of the widest words.
-fn answer_with_all<'w, 'n, 's>(
-    alloc: Global,
-    asked: PolicyQuestion<'_, '_, '_, '_>,
-    workspace: &'w Workspace<'_>,
-    selected: &[usize],
-    here: Planned<'_, '_, 'w, 'n, 's>,
-    all: Planned<'_, '_, 'w, 'n, 's>,
-    every: &'n HeldSpecs<'s>,
-) -> Result<PolicyText, Fault>
-    requires here { IsScene (scene_by (workspace_text workspace.now) selected.now (question_text asked) here) }
-    requires all { IsSceneBy (scene_by (workspace_text workspace.now) selected.now (question_text asked) here) (question_text asked) (scenes.all_words (holds_on every.now) (words_text holds_on here.words.now)) WithAll (scene_by (workspace_text workspace.now) selected.now (question_text asked) all) }
-    ensures answer { IfOk result (λ printed. spec.IsAnswerWith (scene_by (workspace_text workspace.now) selected.now (question_text asked.entry) here.entry) (question_text asked.entry) (Some (holds_on every.now)) (printed_text printed)) }
-    ensures fault { IfErr result (λ fault. Says fault (spec.IsRefusalWith (scene_by (workspace_text workspace.now) selected.now (question_text asked.entry) here.entry) (question_text asked.entry) (Some (holds_on every.now)))) }
-{
-    let words = widened(here.words, Widening::Together, every);
-    match plan(alloc, workspace, &words) {
-        Ok(plan) => {
-            let widest = Planned {
-                words: &words,
-                plan: &plan,
-                judged: Judged::ForEveryChoice,
-            };
-            let wide = Wide { all, widest };
-            let printed = printed_with(alloc, asked, workspace, selected, here, wide);
-            drop(plan);
-            printed
-        }
-        Err(fault) => Err(plan_refused(alloc, workspace, fault)),
-    }
-}
-
-/// Returns the answer for every choice. Each platform spec holds on the platform `every`. The function makes the plan with all members,
-/// features and tests, and then that of the widest words.
+/// Returns the answer for every choice. Each platform spec holds on the platform `every`. The function makes the plans of the wider words.
 fn answer_widely<'w, 'n, 's>(
     alloc: Global,
     asked: PolicyQuestion<'_, '_, '_, '_>,
@@ -92,20 +67,11 @@ fn answer_widely<'w, 'n, 's>(
     ensures answer { IfOk result (λ printed. spec.IsAnswerWith (scene_by (workspace_text workspace.now) selected.now (question_text asked.entry) here.entry) (question_text asked.entry) (Some (holds_on every.now)) (printed_text printed)) }
     ensures fault { IfErr result (λ fault. Says fault (spec.IsRefusalWith (scene_by (workspace_text workspace.now) selected.now (question_text asked.entry) here.entry) (question_text asked.entry) (Some (holds_on every.now)))) }
 {
-    let words = all_words(here.words, every);
-    match plan(alloc, workspace, &words) {
-        Ok(plan) => {
-            let all = Planned {
-                words: &words,
-                plan: &plan,
-                judged: Judged::WithAll,
-            };
-            let printed = answer_with_all(alloc, asked, workspace, selected, here, all, every);
-            drop(plan);
-            printed
-        }
-        Err(fault) => Err(plan_refused(alloc, workspace, fault)),
-    }
+    let words = wide_words(here.words, every);
+    let plans = wide_plans(alloc, workspace, &words)?;
+    let printed = printed_with(alloc, asked, workspace, selected, here, &words, &plans);
+    drop(plans);
+    printed
 }
 
 /// Returns the answer about the build that selects the packages `selected`. `plan` is its plan, that of `words`.

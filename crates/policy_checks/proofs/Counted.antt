@@ -1,34 +1,28 @@
 -- Spots that count, and packages that are built.
 use Rattle.std.proofs.Common.{◌≡◌, ℕ, List, [], ◌∷◌, Bool, true, false, cond, ◌&&◌, ◌||◌, refl, ap, sym, ◌∙◌, filter}
 use Rattle.std.specs.Prelude.{Result, Ok, Err, IfOk}
-use Rattle.std.specs.Borrow.{Bor}
 use Rattle.built_parts.specs.Built.{is_built}
 use Rattle.built_parts.specs.BuiltViews.{builds_in}
 use Rattle.built_parts.specs.declared.built_parts.BuiltParts.{BuiltParts}
 use Rattle.plan_rows.specs.declared.side.Side.{Side}
 use Rattle.plan_rows.specs.declared.side.Side.TheVariants.{Host, Target}
-use Rattle.cargo_plans.specs.plan_starts.PackageVisits.{PairVisit}
+use Rattle.cargo_plans.specs.plan_starts.PackageVisits.{PairVisit, is_on}
 use Rattle.plan_whys.specs.Steps.{SpotText}
 use Rattle.policy_checks.specs.Builds.{BuildText, is_built_anywhere, is_built_on, is_every}
 use Rattle.policy_checks.specs.Spots.{counts, is_spot_on}
-use Rattle.policy_checks.specs.declared.on_spots.Scope.TheVariants.{Built}
+use Rattle.policy_checks.specs.declared.on_spots.Scope.TheVariants.{Everywhere}
 use Rattle.policy_checks.specs.inner.Groups.{builds_anywhere}
 use Rattle.policy_checks.specs.inner.Scopes.{is_spot_built, passes}
 
 -- the spots that pass by the parts that are built
-pub built_spots : {V E : Type 0} (r : Result V E) (view : V → List SpotText) (b : BuildText) (on : PairVisit) (lent : Bor BuiltParts) (parts : BuiltParts) (spots : List SpotText)
-    → on ≡ b.plan.on → lent.now ≡ parts → builds_in parts ≡ is_built b.split b.plan.units
-    → IfOk r (λ v. view v ≡ filter (passes on (Built lent)) spots) → IfOk r (λ v. view v ≡ filter (is_spot_built b) spots)
-built_spots (Ok v) view b on lent parts spots is_on is_parts same e =
+pub built_spots : {V E : Type 0} (r : Result V E) (view : V → List SpotText) (b : BuildText) (on : PairVisit) (parts : BuiltParts) (spots : List SpotText)
+    → on ≡ b.plan.on → builds_in parts ≡ is_built b.split b.plan.units
+    → IfOk r (λ v. view v ≡ filter (λ (s : SpotText). is_on on s.side s.number s.label && builds_in parts s.side s.number) spots) → IfOk r (λ v. view v ≡ filter (is_spot_built b) spots)
+built_spots (Ok v) view b on parts spots visit same e =
     e
-    ∙ ap (λ (o : PairVisit). filter (passes o (Built lent)) spots) is_on
-    ∙ ap (λ (p : BuiltParts). filter (λ (s : SpotText). is_spot_on b s && builds_in p s.side s.number) spots) is_parts
+    ∙ ap (λ (o : PairVisit). filter (λ (s : SpotText). is_on o s.side s.number s.label && builds_in parts s.side s.number) spots) visit
     ∙ ap (λ (f : Side → ℕ → Bool). filter (λ (s : SpotText). is_spot_on b s && f s.side s.number) spots) same
-built_spots (Err x) view b on lent parts spots is_on is_parts same e = tt
-
--- unless it is for every choice, these count
-pub built_count : (b : BuildText) (spots : List SpotText) → is_every b.judged ≡ false → filter (is_spot_built b) spots ≡ filter (counts b) spots
-built_count b spots e = ap (λ (w : Bool). filter (λ (s : SpotText). is_spot_on b s && (w || is_built_on b s.side s.number)) spots) (sym e)
+built_spots (Err x) view b on parts spots visit same e = tt
 
 and_true : (a : Bool) → a ≡ (a && true)
 and_true true = refl
@@ -44,11 +38,14 @@ on_count b spots e =
     filter_same (is_spot_on b) (λ (s : SpotText). is_spot_on b s && true) (λ s. and_true (is_spot_on b s)) spots
     ∙ ap (λ (w : Bool). filter (λ (s : SpotText). is_spot_on b s && (w || is_built_on b s.side s.number)) spots) (sym e)
 
+-- what is on, where all that is on counts
+pub every_spots : {V E : Type 0} (r : Result V E) (view : V → List SpotText) (b : BuildText) (on : PairVisit) (spots : List SpotText) → on ≡ b.plan.on → is_every b.judged ≡ true
+    → IfOk r (λ v. view v ≡ filter (passes on Everywhere) spots) → IfOk r (λ v. view v ≡ filter (counts b) spots)
+every_spots (Ok v) view b on spots visit every e = e ∙ ap (λ (o : PairVisit). filter (passes o Everywhere) spots) visit ∙ on_count b spots every
+every_spots (Err x) view b on spots visit every e = tt
+
 -- the packages that are built
-pub among_built : {V E : Type 0} (r : Result V E) (view : V → List ℕ) (b : BuildText) (lent parts : BuiltParts) (numbers : List ℕ) → lent ≡ parts → builds_in parts ≡ is_built b.split b.plan.units
-    → IfOk r (λ v. view v ≡ filter (builds_anywhere lent) numbers) → IfOk r (λ v. view v ≡ filter (is_built_anywhere b) numbers)
-among_built (Ok v) view b lent parts numbers is_parts same e =
-    e
-    ∙ ap (λ (p : BuiltParts). filter (builds_anywhere p) numbers) is_parts
-    ∙ ap (λ (f : Side → ℕ → Bool). filter (λ p. f Target p || f Host p) numbers) same
-among_built (Err x) view b lent parts numbers is_parts same e = tt
+pub among_built : {V E : Type 0} (r : Result V E) (view : V → List ℕ) (b : BuildText) (parts : BuiltParts) (numbers : List ℕ) → builds_in parts ≡ is_built b.split b.plan.units
+    → IfOk r (λ v. view v ≡ filter (builds_anywhere parts) numbers) → IfOk r (λ v. view v ≡ filter (is_built_anywhere b) numbers)
+among_built (Ok v) view b parts numbers same e = e ∙ ap (λ (f : Side → ℕ → Bool). filter (λ p. f Target p || f Host p) numbers) same
+among_built (Err x) view b parts numbers same e = tt

@@ -11,7 +11,7 @@ mod meaning;
 mod on_spots;
 mod packages;
 mod platforms;
-mod unmatched;
+mod unmatched_rules;
 mod verdict;
 
 pub use build::Build;
@@ -19,5 +19,5 @@ pub use checks::check;
 pub use fault::CheckFault;
 pub use judged::Judged;
 pub use policies::{Rule, RuleKind};
-pub use unmatched::unmatched;
+pub use unmatched_rules::unmatched;
 pub use verdict::Verdict;

@@ -12,6 +12,7 @@ use Rattle.policies.specs.declared.problem.Problem.{Problem}
 use Rattle.policy_checks.specs.Builds.{BuildText}
 use Rattle.policy_checks.specs.Checks.{RefusalText, no_platform_in, out_of_memory, several_in}
 use Rattle.policy_lines.specs.Lines.{place}
+use Rattle.shown_texts.specs.Shown.{escaped}
 
 -- The message about a malformed line of a file.
 abbrev pub malformed_message : Text → ℕ → Problem → Text
@@ -70,4 +71,4 @@ unmatched_message file r = about file r.line (word_of r.kind) (codes "` names no
 
 -- The message about a policy with rules that aren't judged for every choice.
 abbrev pub build_message : Text → Text
-build_message file = file ++ codes ": `require` and `deny-duplicates` are judged for this build alone"
+build_message file = escaped file ++ codes ": `require` and `deny-duplicates` are judged for this build alone"

@@ -7,6 +7,7 @@ ghost use Rattle.policy_lines.specs.Messages as spec;
 use crate::messages::{about, refused_by};
 use feats_files::Fault;
 use policies::{Rule, RuleKind};
+use shown_texts::escaped;
 use std::alloc::{AllocError, Global};
 
 /// Returns the word that a rule of this kind is about.
@@ -39,7 +40,7 @@ pub fn unmatched_refused(alloc: Global, file: &str, rule: Rule<'_>) -> Fault
 pub fn build_message(alloc: Global, file: &str) -> Result<String, AllocError>
     ensures { IfOk result (λ text. string_bytes text ≡ spec.build_message file.now) }
 {
-    let mut text = String::from_str(alloc, file)?;
+    let mut text = escaped(alloc, file)?;
     text.push_str(": `require` and `deny-duplicates` are judged for this build alone")?;
     Ok(text)
 }

@@ -2,7 +2,7 @@ use Rattle.std.proofs.Common.{◌≡◌, ◌++◌, map, drop}
 use Rattle.cargo_workspaces.specs.WorkspaceView.{workspace_text}
 use Rattle.policies.specs.Views.{rule_text}
 use Rattle.policy_checks.specs.Checks.{unmatched}
-use Rattle.policy_checks.proofs.unmatched.unmatched.Given as goal
+use Rattle.policy_checks.proofs.unmatched_rules.unmatched.Given as goal
 
 abbrev pub invariant-loop-rule : goal.invariant-loop-rule
 invariant-loop-rule l =
