@@ -1,3 +1,4 @@
+pub mod Built
 pub mod Found
 pub mod Says
 pub mod Shown

@@ -93,7 +93,8 @@ fn slims_by<'w, 'v, P: Platform>(
     in_order(alloc, &tried)
 }
 
-/// Returns the edits of the members among the packages `selected` by which packages or features fall away from the units `before`, most first.
+/// Returns the edits of the members among the packages `selected` by which packages or features fall away from the units `before`, most
+/// first.
 fn slims_of_selected<'w, 'v, P: Platform>(
     alloc: Global,
     workspace: &Workspace<'v>,
@@ -108,10 +109,11 @@ fn slims_of_selected<'w, 'v, P: Platform>(
     slims_by(alloc, workspace, inheritance, words, before, &members)
 }
 
-/// Returns the single edits of declarations of the selected members, and of entries that these inherit by `inheritance`, by which packages
-/// or features of `plan` fall away: most packages first, then most features, then in the order of the edits. `plan` is that of `words` in
-/// `workspace`; the numbers are by the plan of the same words in the edited workspace. An edit is left out if nothing falls away by it, or if the words have no plan in its workspace.
-/// The only errors are the refusal of the words, and `Memory` if an allocation fails.
+/// Returns the single edits by which packages or features of `plan` fall away: most packages first, then most features, then in the order
+/// of the edits. They are edits of the selected members' declarations, and of entries that these inherit by `inheritance`. `plan` is that
+/// of `words` in `workspace`; the numbers are by the plan of the same words in the edited workspace. An edit is left out if nothing falls
+/// away by it, or if the words have no plan in its workspace. The only errors are the refusal of the words, and `Memory` if an allocation
+/// fails.
 pub fn slims_of<'w, 'v, P: Platform>(
     alloc: Global,
     workspace: &'w Workspace<'v>,

@@ -124,9 +124,9 @@ fn objects_of(alloc: Global, shown: &[Shown<'_, '_>]) -> Result<Vec<u8>, AllocEr
     Ok(text)
 }
 
-/// Returns a line for each of `slims`: a JSON object with the package and the declaration, or the workspace's entry, the default features or the
-/// feature that the edit takes out, and the numbers of packages and features that fall away. `packages` are those of the workspace; edits of declarations that they
-/// don't have are left out.
+/// Returns a line for each of `slims`: a JSON object with the package and the declaration, or with the workspace's entry. It also has what
+/// the edit takes out, and the numbers of packages and features that fall away. `packages` are those of the workspace; edits of
+/// declarations that they don't have are left out.
 pub fn slim_objects<'u>(
     alloc: Global,
     packages: &'u [Package<'_>],

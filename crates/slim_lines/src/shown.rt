@@ -58,7 +58,7 @@ fn declared_in<'u, 'v>(number: usize, package: &'u Package<'v>) -> Option<ShownP
     })
 }
 
-/// Returns the place that a line about `place` shows. `packages` are those of the workspace; there is none if they don't have the declaration.
+/// Returns the place that a line about `place` shows. `packages` are those of the workspace; None if they don't have the declaration.
 fn place_of<'u, 'v>(packages: &'u [Package<'v>], place: EditPlace<'u>) -> Option<ShownPlace<'u, 'v>>
     ensures { option_map shown_place_text result ≡ spec.place_of (map package_text packages.now) (place_text place.entry) }
 {

@@ -37,8 +37,9 @@ fn text_of<'u>(
     }
 }
 
-/// Returns the text about the single edits of the selected members' declarations, and of what they inherit by `manifests`, by which packages
-/// or features of `plan` fall away. `plan` is that of `words` in `workspace`. The only errors are the refusal of the words, and `Memory` if an allocation fails.
+/// Returns the text about the single edits by which packages or features of `plan` fall away: of the selected members' declarations, and
+/// of what they inherit by `manifests`. `plan` is that of `words` in `workspace`. The only errors are the refusal of the words, and `Memory`
+/// if an allocation fails.
 pub fn slim_text<'w, P: Platform>(
     alloc: Global,
     format: Format,

@@ -39,7 +39,7 @@ fn may_have_part(without: Without<'_>, shared: Option<&Value>) -> bool
     }
 }
 
-/// Returns whether an edit of a declaration alone takes the part `without` out of it. It is inherited by `own`, if that is given, from `shared`.
+/// Returns whether an edit of a declaration alone takes the part `without` out of it. It inherits `shared` by the entry `own`, if any.
 pub(crate) fn is_own(shared: Option<&Value>, own: Option<&Value>, without: Without<'_>) -> bool
     ensures { result ≡ spec.is_own (entry_view shared.entry) (entry_view own.entry) (without_text without.entry) }
 {
@@ -49,7 +49,8 @@ pub(crate) fn is_own(shared: Option<&Value>, own: Option<&Value>, without: Witho
     }
 }
 
-/// Returns whether an edit of the workspace's entry takes the part `without` out of a declaration, which is inherited by `own`, if that is given.
+/// Returns whether an edit of the workspace's entry takes the part `without` out of a declaration. It inherits by the
+/// entry `own`, if any.
 pub(crate) fn is_shared(own: Option<&Value>, without: Without<'_>) -> bool
     ensures { result ≡ spec.is_shared (entry_view own.entry) (without_text without.entry) }
 {

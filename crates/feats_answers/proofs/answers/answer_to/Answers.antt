@@ -90,7 +90,7 @@ returns-in-Check-clause-answer c =
     let words = words_text holds_on c.args.words.now in
     let build = plan_text c.args.plan.now in
     let asked = asked_text c.args.asked in
-    answers asked w words build c.args.asked.arguments.now.question (question.Check c.in-Check.file c.in-Check.every_choice) c.check_answer.result c.in-Check.is
+    answers asked w words build c.args.asked.arguments.now.question (question.Check c.in-Check.file c.in-Check.every_choice _) c.check_answer.result c.in-Check.is
     (subst (λ declared. IfOk c.check_answer.result (λ a. IsCheckAnswer asked w declared words build c.in-Check.file.now c.in-Check.every_choice (answer_text a))) c.requires.specs c.check_answer.ensures.answer)
 
 pub returns-in-Check-clause-fault : goal.returns-in-Check-clause-fault
@@ -99,7 +99,7 @@ returns-in-Check-clause-fault c =
     let words = words_text holds_on c.args.words.now in
     let build = plan_text c.args.plan.now in
     let asked = asked_text c.args.asked in
-    refuses asked w words build c.args.asked.arguments.now.question (question.Check c.in-Check.file c.in-Check.every_choice) c.check_answer.result c.in-Check.is
+    refuses asked w words build c.args.asked.arguments.now.question (question.Check c.in-Check.file c.in-Check.every_choice _) c.check_answer.result c.in-Check.is
     (subst (λ declared. IfErr c.check_answer.result (λ f. Says f (IsCheckRefusal asked w declared words build c.in-Check.file.now c.in-Check.every_choice))) c.requires.specs c.check_answer.ensures.fault)
 
 pub returns-in-Slim-clause-answer : goal.returns-in-Slim-clause-answer
