@@ -4,6 +4,7 @@ ghost use Rattle.cargo_workspaces.specs.Views.{package_text};
 ghost use Rattle.cargo_workspaces.specs.WorkspaceView.{workspace_text};
 ghost use Rattle.plan_names.specs.Faults.{package_named};
 ghost use Rattle.built_parts.specs.Built.{is_part_built};
+ghost use Rattle.built_parts.specs.BuiltViews.{is_built_in};
 ghost use Rattle.cargo_plans.specs.plan_steps.PlanViews.{plan_text};
 ghost use Rattle.feats_files.specs.Messages.{Says};
 ghost use Rattle.feats_answers.specs.ListTexts as spec;
@@ -20,6 +21,23 @@ use feature_lists::{feature_lines, feature_objects};
 use plan_names::package_named;
 use std::alloc::{AllocError, Global};
 
+/// Returns the text about `package`, which is package `ix`, in the plan whose built parts are `parts`.
+fn features_by(
+    alloc: Global,
+    format: Format,
+    parts: &BuiltParts<'_>,
+    ix: usize,
+    package: &Package<'_>,
+) -> Result<Vec<u8>, AllocError>
+    ensures { IfOk result (λ text. text.items ≡ spec.feature_text format (λ side. is_built_in parts.now side ix) (package_text «package».now)) }
+{
+    let on = BuiltLabels { parts };
+    match format {
+        Format::Text => Ok(feature_lines(alloc, ix, package, &on)?.into_bytes()),
+        Format::Json => feature_objects(alloc, ix, package, &on),
+    }
+}
+
 /// Returns the text about `package`, which is package `ix`.
 fn package_features(
     alloc: Global,
@@ -32,11 +50,7 @@ fn package_features(
     ensures { IfOk result (λ text. text.items ≡ spec.feature_text format (λ side. is_part_built split (plan_text plan.now) side ix) (package_text «package».now)) }
 {
     let parts = BuiltParts::of_plan(alloc, split, plan)?;
-    let on = BuiltLabels { parts: &parts };
-    match format {
-        Format::Text => Ok(feature_lines(alloc, ix, package, &on)?.into_bytes()),
-        Format::Json => feature_objects(alloc, ix, package, &on),
-    }
+    features_by(alloc, format, &parts, ix, package)
 }
 
 /// Returns the number of the package that `word` names.

@@ -16,6 +16,6 @@ returns c =
     let words = words_text holds_on c.args.words.now in
     IfOk-weaker c.unbuilt_lines.result _ _ (λ text is.
     is ∙ ap (λ (us : List UnbuiltText). unbuilt_lines packages words.selection.split us)
-    (ap (map unbuilt_text) c.deref-2.ensures.value ∙ c.in_ok-list.ensures
+    (ap (map unbuilt_text) c.deref.ensures.value ∙ c.in_ok-list.ensures
     ∙ same_scripts (script_in c.in_ok-scripts.scripts) (lacking_script (is_built_in c.args.parts.now) words.host packages) c.in_ok-scripts.ensures (map spot_text c.args.unbuilt.now)))
     c.unbuilt_lines.ensures
