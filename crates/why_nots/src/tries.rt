@@ -1,0 +1,132 @@
+//! The words that are tried, by an explanation.
+ghost use Rattle.std.specs.Prelude.{◌≡◌, ◌++◌, IfOk, OnOk, map, option_map};
+ghost use Rattle.cargo_workspaces.specs.WorkspaceView.{workspace_text};
+ghost use Rattle.feature_labels.specs.Names.{label_of};
+ghost use Rattle.plan_whys.specs.StepViews.{why_text};
+ghost use Rattle.why_nots.specs.Tries as spec;
+ghost use Rattle.why_nots.specs.inner.Lists.{typed_value};
+
+use crate::typed_words::TypedWords;
+use cargo_workspaces::Workspace;
+use feature_labels::FeatureLabel;
+use plan_whys::WhyStep;
+use std::alloc::{AllocError, Global};
+
+/// Returns `name`, unless it is the default feature.
+fn asked_name(name: &str) -> Option<&str>
+    ensures { option_map (λ t. t.now) result ≡ spec.asked_name name.now }
+{
+    if name == "default" { None } else { Some(name) }
+}
+
+/// Returns the feature that `label` is; none for the default one.
+fn asked_feature<'l>(label: FeatureLabel<'l>) -> Option<&'l str>
+    ensures { option_map (λ t. t.now) result ≡ spec.asked_feature (label_of label.entry) }
+{
+    match label {
+        FeatureLabel::Named(name) => asked_name(name),
+        FeatureLabel::Base | FeatureLabel::OptionalDependency(_) => None,
+    }
+}
+
+/// Returns the feature at which `step` is, if it is one of package `ix`.
+fn feature_at<'p>(ix: usize, step: WhyStep<'p>) -> Option<&'p str>
+    ensures { option_map (λ t. t.now) result ≡ spec.feature_at ix (why_text step.entry) }
+{
+    if step.at.package == ix {
+        asked_feature(step.at.label)
+    } else {
+        None
+    }
+}
+
+/// Returns the first feature of package `ix` in `steps`.
+fn first_feature<'p>(ix: usize, steps: &[WhyStep<'p>]) -> Option<&'p str>
+    ensures { option_map (λ t. t.now) result ≡ spec.first_feature ix (map why_text steps.now) }
+{
+    for step in steps {
+        if let Some(feature) = feature_at(ix, *step) {
+            return Some(feature);
+        }
+    }
+    None
+}
+
+/// Returns the words with which the explanation `steps` begins, with tests if `test` is true.
+fn first_words<'t>(
+    workspace: &'t Workspace<'_>,
+    test: bool,
+    steps: &[WhyStep<'t>],
+) -> Option<TypedWords<'t>>
+    ensures { option_map typed_value result ≡ spec.first_words (workspace_text workspace.now).packages test (map why_text steps.now) }
+{
+    let [start, more @ ..] = steps else {
+        return None;
+    };
+    let ix = start.at.package;
+    match workspace.packages().get(ix) {
+        Some(package) => Some(TypedWords {
+            name: package.name,
+            feature: first_feature(ix, more),
+            test,
+        }),
+        None => None,
+    }
+}
+
+/// Appends `typed` without its feature, and then with it.
+fn push_by_feature<'t>(
+    tries: &mut Vec<TypedWords<'t>>,
+    typed: TypedWords<'t>,
+) -> Result<(), AllocError>
+    ensures { OnOk result (map typed_value tries.new.items ≡ map typed_value tries.old.items ++ spec.by_feature (typed_value typed.entry)) }
+{
+    let without = TypedWords {
+        name: typed.name,
+        feature: None,
+        test: typed.test,
+    };
+    tries.push(without)?;
+    if typed.feature.is_some() {
+        tries.push(typed)?;
+    }
+    Ok(())
+}
+
+/// Returns `typed`, after all that lack some of its words. `here` is whether the command line has tests: then they stay.
+fn by_size<'t>(
+    alloc: Global,
+    here: bool,
+    typed: TypedWords<'t>,
+) -> Result<Vec<TypedWords<'t>>, AllocError>
+    ensures { IfOk result (λ tries. map typed_value tries.items ≡ spec.by_size here (typed_value typed.entry)) }
+{
+    let mut tries = Vec::new(alloc);
+    if typed.test && !here {
+        let without = TypedWords {
+            name: typed.name,
+            feature: typed.feature,
+            test: false,
+        };
+        push_by_feature(&mut tries, without)?;
+    }
+    push_by_feature(&mut tries, typed)?;
+    Ok(tries)
+}
+
+/// Returns the words that are tried: those with which `steps` begin, after all that lack some of them. `test` is whether the plan of the
+/// steps has tests, and `here` is whether the command line has them.
+pub(crate) fn tries_of<'t>(
+    alloc: Global,
+    workspace: &'t Workspace<'_>,
+    here: bool,
+    test: bool,
+    steps: &[WhyStep<'t>],
+) -> Result<Vec<TypedWords<'t>>, AllocError>
+    ensures { IfOk result (λ tries. map typed_value tries.items ≡ spec.tries_of (workspace_text workspace.now).packages here test (map why_text steps.now)) }
+{
+    match first_words(workspace, test, steps) {
+        Some(typed) => by_size(alloc, here, typed),
+        None => Ok(Vec::new(alloc)),
+    }
+}
