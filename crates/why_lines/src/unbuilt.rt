@@ -54,7 +54,8 @@ fn push_lacking(
         Some(package) => {
             text.push_str(": ")?;
             push_base(alloc, text, labels, Side::Target, package)?;
-            text.push_str(" has no build script")
+            text.push_str(" has no build script")?;
+            Ok(())
         }
         None => Ok(()),
     }
@@ -90,7 +91,8 @@ fn push_unbuilt(
     push_spot(alloc, text, labels, unbuilt.spot)?;
     text.push_str(" is ")?;
     push_message(alloc, text, labels, unbuilt)?;
-    text.push_str("\n")
+    text.push_str("\n")?;
+    Ok(())
 }
 
 /// Appends the lines of `list`.
