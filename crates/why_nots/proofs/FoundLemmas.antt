@@ -75,7 +75,7 @@ module _ (w : WorkspaceText) (words : WordsText) (plan : PlanText) (states : Sid
   pub messages_are : (sides : Bool) (parts : List PartText) (messages : List (Option Text)) → sides ≡ words.selection.split → messages ≡ map (message_about w.packages sides lacking states) parts → messages ≡ map (message_in w words plan) parts
   messages_are sides parts messages split are = are ∙ ap (λ b. map (message_about w.packages b lacking states) parts) split ∙ messages_in parts
 
-module _ (form : Format) (w : WorkspaceText) (here words : WordsText) (v : Widening) where
+module _ (form : Format) (alone : Bool) (w : WorkspaceText) (here words : WordsText) (v : Widening) where
   -- the answers by the messages, and by what was found at the first spots
   each_found : (plan : PlanText) (parts : List PartText) (spots : List Spot) (founds : List (Option (Vec WhyStep))) → IsPlanOf w words plan → map spot_text spots ≡ map (first_spot (state_of words.selection.split plan)) parts
       → AllZip (λ at found. AnswersBy w words plan.on (spot_text at) (found_text found)) spots founds
@@ -93,8 +93,8 @@ module _ (form : Format) (w : WorkspaceText) (here words : WordsText) (v : Widen
       )
 
   -- the sections by the answers, and by the words to type
-  each_told : (parts : List PartText) (answers : List AnswerText) (tolds : List ToldText) → AllZip (IsAnswer w words) parts answers → AllZip (IsTold w here words) (zip parts answers) tolds
-      → AllZip (IsSection form w here words v) parts (told_sections form w.packages words v tolds)
+  each_told : (parts : List PartText) (answers : List AnswerText) (tolds : List ToldText) → AllZip (IsAnswer w words) parts answers → AllZip (IsTold alone w here words) (zip parts answers) tolds
+      → AllZip (IsSection form alone w here words v) parts (told_sections form w.packages words v tolds)
   each_told [] [] [] found told = tt
   each_told [] [] (t ∷ ts) found told = absurd told
   each_told [] (a ∷ as) tolds found told = absurd found
@@ -111,7 +111,7 @@ module _ (form : Format) (w : WorkspaceText) (here words : WordsText) (v : Widen
     each_told ps as ts found.1 told.1,
   )
 
-  told_by : (abouts : List PartAnswer) (tolds : List ToldText) → AllZip (λ about. IsTold w here words (about_value about)) abouts tolds → AllZip (IsTold w here words) (map about_value abouts) tolds
+  told_by : (abouts : List PartAnswer) (tolds : List ToldText) → AllZip (λ about. IsTold alone w here words (about_value about)) abouts tolds → AllZip (IsTold alone w here words) (map about_value abouts) tolds
   told_by [] [] told = tt
   told_by [] (t ∷ ts) told = absurd told
   told_by (a ∷ as) [] told = absurd told
@@ -136,14 +136,14 @@ module _ (form : Format) (w : WorkspaceText) (here words : WordsText) (v : Widen
       (by_each plan spots founds (subst (λ ss. AnswersEachBy w words plan.on ss founds) is_taken found)))
 
   pub told_sections_are : (parts : List PartText) (answers : List AnswerText) (abouts taken : List PartAnswer) (tolds : List ToldText) (sections : List Text)
-      → AllZip (IsAnswer w words) parts answers → map about_value abouts ≡ zip parts answers → taken ≡ abouts → AllZip (λ about. IsTold w here words (about_value about)) taken tolds
-      → sections ≡ told_sections form w.packages words v tolds → AllZip (IsSection form w here words v) parts sections
+      → AllZip (IsAnswer w words) parts answers → map about_value abouts ≡ zip parts answers → taken ≡ abouts → AllZip (λ about. IsTold alone w here words (about_value about)) taken tolds
+      → sections ≡ told_sections form w.packages words v tolds → AllZip (IsSection form alone w here words v) parts sections
   told_sections_are parts answers abouts taken tolds sections found pairs is_taken told shown =
-      subst (AllZip (IsSection form w here words v) parts) (sym shown)
-      (each_told parts answers tolds found (subst (λ ps. AllZip (IsTold w here words) ps tolds) pairs (told_by abouts tolds (subst (λ ts. AllZip (λ about. IsTold w here words (about_value about)) ts tolds) is_taken told))))
+      subst (AllZip (IsSection form alone w here words v) parts) (sym shown)
+      (each_told parts answers tolds found (subst (λ ps. AllZip (IsTold alone w here words) ps tolds) pairs (told_by abouts tolds (subst (λ ts. AllZip (λ about. IsTold alone w here words (about_value about)) ts tolds) is_taken told))))
 
   each_off : (plan : PlanText) (parts : List OffPart) → IsPlanOf w words plan → list_any (λ part. has_part plan.on (part_text part)) parts ≡ false
-      → AllZip (IsSection form w here words v) (map part_text parts) (same_sections form w.packages words v off (map part_text parts))
+      → AllZip (IsSection form alone w here words v) (map part_text parts) (same_sections form w.packages words v off (map part_text parts))
   each_off plan [] is_plan none = tt
   each_off plan (p ∷ ps) is_plan none =
       let parts_off = or_parts _ _ none in (
@@ -158,11 +158,11 @@ module _ (form : Format) (w : WorkspaceText) (here words : WordsText) (v : Widen
       )
 
   pub all_off : (plan : PlanText) (parts : List OffPart) (one_is : Bool) (sections : List Text) → IsPlanOf w words plan → one_is ≡ list_any (λ part. has_part plan.on (part_text part)) parts → one_is ≡ false
-      → sections ≡ same_sections form w.packages words v off (map part_text parts) → AllZip (IsSection form w here words v) (map part_text parts) sections
-  all_off plan parts one_is sections is_plan says none shown = subst (AllZip (IsSection form w here words v) (map part_text parts)) (sym shown) (each_off plan parts is_plan (sym says ∙ none))
+      → sections ≡ same_sections form w.packages words v off (map part_text parts) → AllZip (IsSection form alone w here words v) (map part_text parts) sections
+  all_off plan parts one_is sections is_plan says none shown = subst (AllZip (IsSection form alone w here words v) (map part_text parts)) (sym shown) (each_off plan parts is_plan (sym says ∙ none))
 
   each_refused : (fault : PlanFault) (message : Text) (parts : List PartText) → IsRefusal w words fault → IsFalse (is_memory fault) → message ≡ plan_message w.packages fault
-      → AllZip (IsSection form w here words v) parts (same_sections form w.packages words v (not_planned message) parts)
+      → AllZip (IsSection form alone w here words v) parts (same_sections form w.packages words v (not_planned message) parts)
   each_refused fault message [] refusal claimed is = tt
   each_refused fault message (p ∷ ps) refusal claimed is = (
     record {
@@ -176,6 +176,6 @@ module _ (form : Format) (w : WorkspaceText) (here words : WordsText) (v : Widen
   )
 
   pub unplanned : (fault : PlanFault) (parts : List PartText) (sections : List Text) → IsRefusal w words fault → IsFalse (is_memory fault)
-      → sections ≡ same_sections form w.packages words v (not_planned (plan_message w.packages fault)) parts → AllZip (IsSection form w here words v) parts sections
+      → sections ≡ same_sections form w.packages words v (not_planned (plan_message w.packages fault)) parts → AllZip (IsSection form alone w here words v) parts sections
   unplanned fault parts sections refusal claimed shown =
-      subst (AllZip (IsSection form w here words v) parts) (sym shown) (each_refused fault (plan_message w.packages fault) parts refusal claimed refl)
+      subst (AllZip (IsSection form alone w here words v) parts) (sym shown) (each_refused fault (plan_message w.packages fault) parts refusal claimed refl)

@@ -1,5 +1,5 @@
 -- The words that are tried, by an explanation.
-use Rattle.std.specs.Prelude.{ℕ, List, [], ◌∷◌, ◌++◌, Bool, false, Option, None, Some, codes, if◌then◌else◌, ◌&&◌, is_some, nat_eq, not, option_map, slice_get}
+use Rattle.std.specs.Prelude.{ℕ, List, [], ◌∷◌, ◌++◌, Bool, true, false, Option, None, Some, codes, if◌then◌else◌, ◌&&◌, is_some, nat_eq, not, option_map, slice_get}
 use Rattle.std.specs.Option.{option_or}
 use Rattle.std.specs.Str.{bytes_eq}
 use Rattle.cargo_workspaces.specs.Workspaces.{Text, PackageText}
@@ -58,5 +58,7 @@ sizes_of here None = []
 sizes_of here (Some t) = by_size here t
 
 -- THE WORDS THAT ARE TRIED: those with which the explanation begins, after all that lack some of them. `test` is whether its plan has tests.
-abbrev pub tries_of : List PackageText → Bool → Bool → List WhyText → List TypedText
-tries_of packages here test whys = sizes_of here (first_words packages test whys)
+-- None are tried if the part isn't alone: each needs a plan.
+abbrev pub tries_of : Bool → List PackageText → Bool → Bool → List WhyText → List TypedText
+tries_of true packages here test whys = sizes_of here (first_words packages test whys)
+tries_of false packages here test whys = []

@@ -48,12 +48,19 @@ IsFirst w here part [] typed = typed ≡ None
 IsFirst w here part (t ∷ ts) typed =
     (is : Bool) × IsBuiltIf w (typed_words here t) part is × (IsTrue is → typed ≡ Some t) × (IsFalse is → IsFirst w here part ts typed)
 
--- THE WORDS TO TYPE for an answer by `words`: of the words that are tried, the first that build the part. The command line is `here`.
-abbrev pub IsTyped : WorkspaceText → WordsText → WordsText → PartText → AnswerText → Option TypedText → Type 0
-IsTyped w here words part (explained whys) typed = IsFirst w here part (tries_of w.packages here.test words.test whys) typed
-IsTyped w here words part (unbuilt message) typed = typed ≡ None
-IsTyped w here words part off typed = typed ≡ None
-IsTyped w here words part (not_planned message) typed = typed ≡ None
+-- Whether there is one part.
+abbrev pub is_single : List PartText → Bool
+is_single [] = false
+is_single (part ∷ []) = true
+is_single (part ∷ more ∷ parts) = false
+
+-- THE WORDS TO TYPE for an answer by `words`: of the words that are tried, the first that build the part. The command line is `here`, and
+-- `alone` is whether it asks about one part.
+abbrev pub IsTyped : Bool → WorkspaceText → WordsText → WordsText → PartText → AnswerText → Option TypedText → Type 0
+IsTyped alone w here words part (explained whys) typed = IsFirst w here part (tries_of alone w.packages here.test words.test whys) typed
+IsTyped alone w here words part (unbuilt message) typed = typed ≡ None
+IsTyped alone w here words part off typed = typed ≡ None
+IsTyped alone w here words part (not_planned message) typed = typed ≡ None
 
 abbrev pub feature_word : Option Text → Text
 feature_word None = []

@@ -89,9 +89,9 @@ fn small_words<'p>(
     steps: &[WhyStep<'p>],
 ) -> Result<Option<TypedWords<'p>>, AllocError>
     ensures { IfOk result (λ typed. IsFirst (workspace_text base.entry.workspace.now) (words_text holds_on base.entry.words.now) (part_text part.entry)
-        (words_tried (workspace_text base.entry.workspace.now).packages (words_text holds_on base.entry.words.now).test test (map why_text steps.now)) (option_map typed_value typed)) }
+        (words_tried base.entry.alone (workspace_text base.entry.workspace.now).packages (words_text holds_on base.entry.words.now).test test (map why_text steps.now)) (option_map typed_value typed)) }
 {
-    let tries = tries_of(alloc, base.workspace, base.words.test, test, steps)?;
+    let tries = tries_of(alloc, base, test, steps)?;
     first_built(alloc, base.workspace, base.words, part, &tries)
 }
 
@@ -102,7 +102,7 @@ fn words_for<'p>(
     words: &PlanWords<'_, '_, HeldSpecs<'_>>,
     about: PartAnswer<'_, 'p, '_>,
 ) -> Result<Option<TypedWords<'p>>, AllocError>
-    ensures { IfOk result (λ typed. IsTyped (workspace_text base.entry.workspace.now) (words_text holds_on base.entry.words.now) (words_text holds_on words.now) (part_text about.entry.part) (answer_text about.entry.answer) (option_map typed_value typed)) }
+    ensures { IfOk result (λ typed. IsTyped base.entry.alone (workspace_text base.entry.workspace.now) (words_text holds_on base.entry.words.now) (words_text holds_on words.now) (part_text about.entry.part) (answer_text about.entry.answer) (option_map typed_value typed)) }
 {
     match about.answer {
         Answer::Explained(steps) => small_words(alloc, base, words.test, about.part, steps),
@@ -117,7 +117,7 @@ pub(crate) fn told_each<'a, 'p, 'w>(
     words: &PlanWords<'_, '_, HeldSpecs<'_>>,
     abouts: &[PartAnswer<'a, 'p, 'w>],
 ) -> Result<Vec<Told<'a, 'p, 'w>>, AllocError>
-    ensures { IfOk result (λ tolds. AllZip (λ about. IsTold (workspace_text base.entry.workspace.now) (words_text holds_on base.entry.words.now) (words_text holds_on words.now) (about_value about)) abouts.now (map told_value tolds.items)) }
+    ensures { IfOk result (λ tolds. AllZip (λ about. IsTold base.entry.alone (workspace_text base.entry.workspace.now) (words_text holds_on base.entry.words.now) (words_text holds_on words.now) (about_value about)) abouts.now (map told_value tolds.items)) }
 {
     let mut tolds = Vec::with_capacity(alloc, abouts.len())?;
     for about in abouts {

@@ -6,6 +6,7 @@ ghost use Rattle.plan_whys.specs.StepViews.{why_text};
 ghost use Rattle.why_nots.specs.Tries as spec;
 ghost use Rattle.why_nots.specs.inner.Lists.{typed_value};
 
+use crate::base::Base;
 use crate::typed_words::TypedWords;
 use cargo_workspaces::Workspace;
 use feature_labels::FeatureLabel;
@@ -114,19 +115,36 @@ fn by_size<'t>(
     Ok(tries)
 }
 
-/// Returns the words that are tried: those with which `steps` begin, after all that lack some of them. `test` is whether the plan of the
-/// steps has tests, and `here` is whether the command line has them.
-pub(crate) fn tries_of<'t>(
+/// Returns the words with which `steps` begin, after all that lack some of them. `test` is whether the plan of the steps has tests, and
+/// `here` is whether the command line has them.
+fn sizes_of<'t>(
     alloc: Global,
     workspace: &'t Workspace<'_>,
     here: bool,
     test: bool,
     steps: &[WhyStep<'t>],
 ) -> Result<Vec<TypedWords<'t>>, AllocError>
-    ensures { IfOk result (λ tries. map typed_value tries.items ≡ spec.tries_of (workspace_text workspace.now).packages here test (map why_text steps.now)) }
+    ensures { IfOk result (λ tries. map typed_value tries.items ≡ spec.sizes_of here (spec.first_words (workspace_text workspace.now).packages test (map why_text steps.now))) }
 {
     match first_words(workspace, test, steps) {
         Some(typed) => by_size(alloc, here, typed),
         None => Ok(Vec::new(alloc)),
+    }
+}
+
+/// Returns the words that are tried for a part that is on by `steps`; none if it isn't alone. `test` is whether the plan of the steps has
+/// tests.
+pub(crate) fn tries_of<'t>(
+    alloc: Global,
+    base: Base<'t, '_, '_, '_, '_, '_>,
+    test: bool,
+    steps: &[WhyStep<'t>],
+) -> Result<Vec<TypedWords<'t>>, AllocError>
+    ensures { IfOk result (λ tries. map typed_value tries.items ≡ spec.tries_of base.entry.alone (workspace_text base.entry.workspace.now).packages base.entry.words.now.test test (map why_text steps.now)) }
+{
+    if base.alone {
+        sizes_of(alloc, base.workspace, base.words.test, test, steps)
+    } else {
+        Ok(Vec::new(alloc))
     }
 }

@@ -84,7 +84,7 @@ fn explained_sections(
     plan: &Plan<'_>,
 ) -> Result<Vec<Vec<u8>>, AllocError>
     requires { IsPlanOf (workspace_text base.workspace.now) (words_text holds_on words.now) (plan_text plan.now) }
-    ensures { IfOk result (λ sections. AllZip (IsSection form (workspace_text base.entry.workspace.now) (words_text holds_on base.entry.words.now) (words_text holds_on words.now) widening) (map part_text parts.now) (texts_of sections.items)) }
+    ensures { IfOk result (λ sections. AllZip (IsSection form base.entry.alone (workspace_text base.entry.workspace.now) (words_text holds_on base.entry.words.now) (words_text holds_on words.now) widening) (map part_text parts.now) (texts_of sections.items)) }
 {
     let workspace = base.workspace;
     let builds = builds_of(alloc, workspace, words, plan)?;
@@ -109,7 +109,7 @@ pub(crate) fn planned_sections(
     plan: &Plan<'_>,
 ) -> Result<Vec<Vec<u8>>, AllocError>
     requires { IsPlanOf (workspace_text base.workspace.now) (words_text holds_on words.now) (plan_text plan.now) }
-    ensures { IfOk result (λ sections. AllZip (IsSection form (workspace_text base.entry.workspace.now) (words_text holds_on base.entry.words.now) (words_text holds_on words.now) widening) (map part_text parts.now) (texts_of sections.items)) }
+    ensures { IfOk result (λ sections. AllZip (IsSection form base.entry.alone (workspace_text base.entry.workspace.now) (words_text holds_on base.entry.words.now) (words_text holds_on words.now) widening) (map part_text parts.now) (texts_of sections.items)) }
 {
     if is_one_on(plan, parts) {
         explained_sections(alloc, form, base, words, widening, parts, plan)
@@ -146,7 +146,7 @@ pub(crate) fn widened_sections(
     widening: Widening,
     parts: &[OffPart<'_>],
 ) -> Result<Vec<Vec<u8>>, AllocError>
-    ensures { IfOk result (λ sections. AllZip (IsSection form (workspace_text base.entry.workspace.now) (words_text holds_on base.entry.words.now) (words_text holds_on words.now) widening) (map part_text parts.now) (texts_of sections.items)) }
+    ensures { IfOk result (λ sections. AllZip (IsSection form base.entry.alone (workspace_text base.entry.workspace.now) (words_text holds_on base.entry.words.now) (words_text holds_on words.now) widening) (map part_text parts.now) (texts_of sections.items)) }
 {
     match plan(alloc, base.workspace, words) {
         Ok(plan) => {

@@ -89,8 +89,8 @@ abbrev pub told_value : Told → ToldText
 told_value told = (about_value told.about, option_map typed_value told.typed)
 
 -- The words to type are those for the part and the answer.
-abbrev pub IsTold : WorkspaceText → WordsText → WordsText → PartText × AnswerText → ToldText → Type 0
-IsTold w here words about told = (told.0 ≡ about) × IsTyped w here words about.0 about.1 told.1
+abbrev pub IsTold : Bool → WorkspaceText → WordsText → WordsText → PartText × AnswerText → ToldText → Type 0
+IsTold alone w here words about told = (told.0 ≡ about) × IsTyped alone w here words about.0 about.1 told.1
 
 abbrev pub told_section : Format → List PackageText → WordsText → Widening → ToldText → Text
 told_section form packages words v told = section_text form packages words v told.0.0 told.0.1 told.1

@@ -8,4 +8,4 @@ use Rattle.why_nots.proofs.small_words.told_each.Given as goal
 
 abbrev pub invariant-loop-about : goal.invariant-loop-about
 invariant-loop-about l =
-    AllZip (λ about. IsTold (workspace_text l.base.workspace.now) (words_text holds_on l.base.words.now) (words_text holds_on l.words) (about_value about)) (take l.about-index l.abouts) (map told_value l.tolds.items)
+    AllZip (λ about. IsTold l.base.alone (workspace_text l.base.workspace.now) (words_text holds_on l.base.words.now) (words_text holds_on l.words) (about_value about)) (take l.about-index l.abouts) (map told_value l.tolds.items)

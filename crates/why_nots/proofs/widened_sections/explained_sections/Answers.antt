@@ -29,12 +29,12 @@ returns c =
     let by = c.in_ok-answers.ensures
     ∙ ap (λ ms. answers_by (optional_texts ms) (map found_text c.deref-3.result.now)) c.deref-2.ensures.value
     ∙ ap (λ fs. answers_by (optional_texts messages) (map found_text fs)) c.deref-3.ensures.value in
-    let found = explained_by form w here words v plan (state_in builds.parts) parts (optional_texts messages)
+    let found = explained_by form c.args.base.alone w here words v plan (state_in builds.parts) parts (optional_texts messages)
     c.in_ok-spots.spots.items c.deref.result.now c.in_ok-founds.founds.items answers
     c.requires facts.parts are c.in_ok-spots.ensures c.deref.ensures.value c.in_ok-founds.ensures by in
     let pairs = c.in_ok-abouts.ensures ∙ ap (λ answers. zip parts (map answer_text answers)) c.deref-4.ensures.value in
     IfOk-weaker c.told_sections.result _ _ (λ sections shown.
-    told_sections_are form w here words v parts answers c.in_ok-abouts.abouts.items c.deref-5.result.now (map told_value c.in_ok-tolds.tolds.items) (texts_of sections.items)
+    told_sections_are form c.args.base.alone w here words v parts answers c.in_ok-abouts.abouts.items c.deref-5.result.now (map told_value c.in_ok-tolds.tolds.items) (texts_of sections.items)
     found pairs c.deref-5.ensures.value c.in_ok-tolds.ensures
     (shown ∙ ap (λ tolds. told_sections form w.packages words v (map told_value tolds)) c.deref-6.ensures.value))
     c.told_sections.ensures
