@@ -1,5 +1,5 @@
 -- How parts stand, from the states of the two sides.
-use Rattle.std.proofs.Common.{◌≡◌, ◌∙◌, Bool, true, false, ◌||◌, refl, sym, ap}
+use Rattle.std.proofs.Common.{◌≡◌, Bool, true, false, ◌||◌, refl}
 use Rattle.std.specs.Prelude.{IsFalse}
 use Rattle.built_parts.specs.Built.{is_built, state_if}
 use Rattle.cargo_plans.specs.plan_starts.PackageVisits.{is_on}
