@@ -4,7 +4,8 @@ use Rattle.std.specs.Option.{option_or}
 use Rattle.std.specs.Str.{bytes_eq}
 use Rattle.cargo_workspaces.specs.Workspaces.{Text, PackageText}
 use Rattle.feature_labels.specs.Names.{LabelName, base, named, optional}
-use Rattle.plan_whys.specs.Steps.{WhyText}
+use Rattle.plan_whys.specs.Steps.{ReasonText, WhyText, from, selected}
+use Rattle.why_lines.specs.Relations.{is_command_spot}
 
 -- One selected package, perhaps with one of its features, and perhaps with tests.
 pub record TypedText : Type 0 where
@@ -25,10 +26,15 @@ asked_feature base = None
 asked_feature (named name) = asked_name name
 asked_feature (optional name) = None
 
-abbrev pub feature_at : ℕ → WhyText → Option Text
-feature_at p why = if nat_eq why.spot.number p then asked_feature why.spot.label else None
+-- Whether a command feature leads to a spot: the selection asks for it.
+abbrev pub is_asked : ReasonText → Bool
+is_asked selected = false
+is_asked (from start gate) = is_command_spot start
 
--- The first such feature of package `p`.
+abbrev pub feature_at : ℕ → WhyText → Option Text
+feature_at p why = if nat_eq why.spot.number p && is_asked why.reason then asked_feature why.spot.label else None
+
+-- The first such feature of package `p` for which the selection asks.
 abbrev pub first_feature : ℕ → List WhyText → Option Text
 first_feature p [] = None
 first_feature p (why ∷ whys) = option_or (feature_at p why) (first_feature p whys)

@@ -2,7 +2,8 @@
 ghost use Rattle.std.specs.Prelude.{◌≡◌, ◌++◌, IfOk, OnOk, map, option_map};
 ghost use Rattle.cargo_workspaces.specs.WorkspaceView.{workspace_text};
 ghost use Rattle.feature_labels.specs.Names.{label_of};
-ghost use Rattle.plan_whys.specs.StepViews.{why_text};
+ghost use Rattle.plan_whys.specs.StepViews.{reason_text, spot_text, why_text};
+ghost use Rattle.why_lines.specs.Relations.{is_command_spot};
 ghost use Rattle.why_nots.specs.Tries as spec;
 ghost use Rattle.why_nots.specs.inner.Lists.{typed_value};
 
@@ -10,7 +11,7 @@ use crate::base::Base;
 use crate::typed_words::TypedWords;
 use cargo_workspaces::Workspace;
 use feature_labels::FeatureLabel;
-use plan_whys::WhyStep;
+use plan_whys::{Spot, WhyReason, WhyStep};
 use std::alloc::{AllocError, Global};
 
 /// Returns `name`, unless it is the default feature.
@@ -30,18 +31,38 @@ fn asked_feature<'l>(label: FeatureLabel<'l>) -> Option<&'l str>
     }
 }
 
-/// Returns the feature at which `step` is, if it is one of package `ix`.
+/// Returns whether `spot` is a command feature.
+fn is_command(spot: Spot<'_>) -> bool
+    ensures { result ≡ is_command_spot (spot_text spot.entry) }
+{
+    match spot.label {
+        FeatureLabel::Named(name) => name == "[command]",
+        FeatureLabel::Base | FeatureLabel::OptionalDependency(_) => false,
+    }
+}
+
+/// Returns whether a command feature leads to a spot that is on for `reason`: the selection asks for it.
+fn is_asked(reason: WhyReason<'_>) -> bool
+    ensures { result ≡ spec.is_asked (reason_text reason.entry) }
+{
+    match reason {
+        WhyReason::Selected => false,
+        WhyReason::From { start, .. } => is_command(start),
+    }
+}
+
+/// Returns the feature at which `step` is, if it is one of package `ix` for which the selection asks.
 fn feature_at<'p>(ix: usize, step: WhyStep<'p>) -> Option<&'p str>
     ensures { option_map (λ t. t.now) result ≡ spec.feature_at ix (why_text step.entry) }
 {
-    if step.at.package == ix {
+    if step.at.package == ix && is_asked(step.reason) {
         asked_feature(step.at.label)
     } else {
         None
     }
 }
 
-/// Returns the first feature of package `ix` in `steps`.
+/// Returns the first feature of package `ix` in `steps` for which the selection asks.
 fn first_feature<'p>(ix: usize, steps: &[WhyStep<'p>]) -> Option<&'p str>
     ensures { option_map (λ t. t.now) result ≡ spec.first_feature ix (map why_text steps.now) }
 {
