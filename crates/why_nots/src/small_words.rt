@@ -9,7 +9,7 @@ ghost use Rattle.plan_whys.specs.StepViews.{why_text};
 ghost use Rattle.why_nots.specs.PartView.{part_text};
 ghost use Rattle.why_nots.specs.Standings.{standing_of as standing_in_plan};
 ghost use Rattle.why_nots.specs.Tries.{tries_of as words_tried};
-ghost use Rattle.why_nots.specs.Typed.{IsBuiltIf, IsFirst, IsTyped, is_built_standing};
+ghost use Rattle.why_nots.specs.Typed.{IsBuiltIf, IsFirst, IsTyped, is_built_standing, typed_words};
 ghost use Rattle.why_nots.specs.inner.Lists.{IsTold, about_value, answer_text, told_value, typed_value};
 
 use crate::answer::Answer;
@@ -62,6 +62,19 @@ fn is_built_by(
     }
 }
 
+/// Returns whether `part` is built in the plan of the words `typed`. The resolver and the platforms are those of `words`.
+fn is_built_by_typed(
+    alloc: Global,
+    workspace: &Workspace<'_>,
+    words: &PlanWords<'_, '_, HeldSpecs<'_>>,
+    part: OffPart<'_>,
+    typed: TypedWords<'_>,
+) -> Result<bool, AllocError>
+    ensures { IfOk result (IsBuiltIf (workspace_text workspace.now) (typed_words (words_text holds_on words.now) (typed_value typed.entry)) (part_text part.entry)) }
+{
+    is_built_by(alloc, workspace, &words_of(words, &typed), part)
+}
+
 /// Returns the first of `tries` in whose plan `part` is built. The resolver and the platforms are those of `words`.
 fn first_built<'t>(
     alloc: Global,
@@ -73,7 +86,7 @@ fn first_built<'t>(
     ensures { IfOk result (λ typed. IsFirst (workspace_text workspace.now) (words_text holds_on words.now) (part_text part.entry) (map typed_value tries.now) (option_map typed_value typed)) }
 {
     for typed in tries {
-        if is_built_by(alloc, workspace, &words_of(words, typed), part)? {
+        if is_built_by_typed(alloc, workspace, words, part, *typed)? {
             return Ok(Some(*typed));
         }
     }
