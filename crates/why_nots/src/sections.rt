@@ -42,7 +42,7 @@ fn with_typed(
     lines: String,
     typed: Option<TypedWords<'_>>,
 ) -> Result<String, AllocError>
-    ensures { IfOk result (λ text. string_bytes text ≡ string_bytes lines.entry ++ typed_line (option_map typed_value typed.entry)) }
+    ensures { IfOk result (λ text. string_bytes text ≡ string_bytes lines ++ typed_line (option_map typed_value typed.entry)) }
 {
     let mut text = lines;
     if let Some(typed) = typed {
