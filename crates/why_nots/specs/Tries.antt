@@ -39,11 +39,14 @@ abbrev pub first_feature : ℕ → List WhyText → Option Text
 first_feature p [] = None
 first_feature p (why ∷ whys) = option_or (feature_at p why) (first_feature p whys)
 
+-- Words for package `p`.
+abbrev pub words_at : List PackageText → ℕ → Option Text → Bool → Option TypedText
+words_at packages p feature test = option_map (λ x. record { name = x.name; feature = feature; test = test }) (slice_get packages p)
+
 -- The words with which an explanation begins. Its first step is that a package is selected.
 abbrev pub first_words : List PackageText → Bool → List WhyText → Option TypedText
 first_words packages test [] = None
-first_words packages test (why ∷ whys) =
-    option_map (λ p. record { name = p.name; feature = first_feature why.spot.number whys; test = test }) (slice_get packages why.spot.number)
+first_words packages test (why ∷ whys) = words_at packages why.spot.number (first_feature why.spot.number whys) test
 
 abbrev pub without_feature : TypedText → TypedText
 without_feature t = record { name = t.name; feature = None; test = t.test }

@@ -7,6 +7,7 @@ ghost use Rattle.cargo_workspaces.specs.WorkspaceView.{workspace_text};
 ghost use Rattle.plan_platforms.specs.HeldSpecs.{holds_on};
 ghost use Rattle.plan_whys.specs.StepViews.{why_text};
 ghost use Rattle.why_nots.specs.PartView.{part_text};
+ghost use Rattle.why_nots.specs.StandingView.{standing_text};
 ghost use Rattle.why_nots.specs.Standings.{standing_of as standing_in_plan};
 ghost use Rattle.why_nots.specs.Tries.{tries_of as words_tried};
 ghost use Rattle.why_nots.specs.Typed.{IsBuiltIf, IsFirst, IsTyped, is_built_standing, typed_words};
@@ -26,6 +27,16 @@ use plan_platforms::HeldSpecs;
 use plan_whys::WhyStep;
 use std::alloc::{AllocError, Global};
 
+/// Returns whether a part is built that stands so.
+fn is_built(standing: Standing) -> bool
+    ensures { result ≡ is_built_standing (standing_text standing) }
+{
+    match standing {
+        Standing::BuiltOn(_) => true,
+        Standing::UnbuiltOn(_) | Standing::Off => false,
+    }
+}
+
 /// Returns whether `part` is built in `plan`. `split` is whether its resolver tells the sides apart.
 fn is_built_in(
     alloc: Global,
@@ -36,10 +47,7 @@ fn is_built_in(
     ensures { IfOk result (λ is. is ≡ is_built_standing (standing_in_plan split (plan_text plan.now) (part_text part.entry))) }
 {
     let built = BuiltParts::of_plan(alloc, split, plan)?;
-    match standing_of(&built, part) {
-        Standing::BuiltOn(_) => Ok(true),
-        Standing::UnbuiltOn(_) | Standing::Off => Ok(false),
-    }
+    Ok(is_built(standing_of(&built, part)))
 }
 
 /// Returns whether `words` have a plan in which `part` is built.

@@ -74,6 +74,25 @@ fn first_feature<'p>(ix: usize, steps: &[WhyStep<'p>]) -> Option<&'p str>
     None
 }
 
+/// Returns words for package `ix`; none if there is no such package.
+fn words_at<'t>(
+    workspace: &'t Workspace<'_>,
+    ix: usize,
+    feature: Option<&'t str>,
+    test: bool,
+) -> Option<TypedWords<'t>>
+    ensures { option_map typed_value result ≡ spec.words_at (workspace_text workspace.now).packages ix (option_map (λ t. t.now) feature.entry) test }
+{
+    match workspace.packages().get(ix) {
+        Some(package) => Some(TypedWords {
+            name: package.name,
+            feature,
+            test,
+        }),
+        None => None,
+    }
+}
+
 /// Returns the words with which the explanation `steps` begins, with tests if `test` is true.
 fn first_words<'t>(
     workspace: &'t Workspace<'_>,
@@ -86,14 +105,7 @@ fn first_words<'t>(
         return None;
     };
     let ix = start.at.package;
-    match workspace.packages().get(ix) {
-        Some(package) => Some(TypedWords {
-            name: package.name,
-            feature: first_feature(ix, more),
-            test,
-        }),
-        None => None,
-    }
+    words_at(workspace, ix, first_feature(ix, more), test)
 }
 
 /// Appends `typed` without its feature, and then with it.
