@@ -97,10 +97,10 @@ module _ (form : Format) (alone : Bool) (w : WorkspaceText) (here words : WordsT
       → AllZip (IsSection form alone w here words v) parts (told_sections form w.packages words v tolds)
   each_told [] [] [] found told = tt
   each_told [] [] (t ∷ ts) found told = absurd told
-  each_told [] (a ∷ as) tolds found told = absurd found
+  each_told [] (a ∷ rest) tolds found told = absurd found
   each_told (p ∷ ps) [] tolds found told = absurd found
-  each_told (p ∷ ps) (a ∷ as) [] found told = absurd told
-  each_told (p ∷ ps) (a ∷ as) (t ∷ ts) found told = (
+  each_told (p ∷ ps) (a ∷ rest) [] found told = absurd told
+  each_told (p ∷ ps) (a ∷ rest) (t ∷ ts) found told = (
     record {
       answer = a;
       is_answer = found.0;
@@ -108,14 +108,14 @@ module _ (form : Format) (alone : Bool) (w : WorkspaceText) (here words : WordsT
       is_typed = told.0.1;
       is_text = ap (λ (about : PartText × AnswerText). section_text form w.packages words v about.0 about.1 t.1) told.0.0;
     },
-    each_told ps as ts found.1 told.1,
+    each_told ps rest ts found.1 told.1,
   )
 
   told_by : (abouts : List PartAnswer) (tolds : List ToldText) → AllZip (λ about. IsTold alone w here words (about_value about)) abouts tolds → AllZip (IsTold alone w here words) (map about_value abouts) tolds
   told_by [] [] told = tt
   told_by [] (t ∷ ts) told = absurd told
-  told_by (a ∷ as) [] told = absurd told
-  told_by (a ∷ as) (t ∷ ts) told = (told.0, told_by as ts told.1)
+  told_by (a ∷ rest) [] told = absurd told
+  told_by (a ∷ rest) (t ∷ ts) told = (told.0, told_by rest ts told.1)
 
   by_each : (plan : PlanText) (spots : List Spot) (founds : List (Option (Vec WhyStep))) → AnswersEachBy w words plan.on spots founds → AllZip (λ at found. AnswersBy w words plan.on (spot_text at) (found_text found)) spots founds
   by_each plan spots founds answers = go spots founds answers.holds

@@ -1,11 +1,12 @@
 //! The smallest words that turn parts on.
-ghost use Rattle.std.specs.Prelude.{◌≡◌, IfOk, map, option_map};
+ghost use Rattle.std.specs.Prelude.{◌≡◌, IfOk, IsFalse, false, map, option_map};
 ghost use Rattle.std.specs.List.{AllZip};
 ghost use Rattle.cargo_plans.specs.WordsView.{words_text};
 ghost use Rattle.cargo_plans.specs.plan_steps.PlanViews.{plan_text};
 ghost use Rattle.cargo_workspaces.specs.WorkspaceView.{workspace_text};
 ghost use Rattle.plan_platforms.specs.HeldSpecs.{holds_on};
 ghost use Rattle.plan_whys.specs.StepViews.{why_text};
+ghost use Rattle.plan_widenings.specs.Findings.{is_memory};
 ghost use Rattle.why_nots.specs.PartView.{part_text};
 ghost use Rattle.why_nots.specs.StandingView.{standing_text};
 ghost use Rattle.why_nots.specs.Standings.{standing_of as standing_in_plan};
@@ -50,6 +51,16 @@ fn is_built_in(
     Ok(is_built(standing_of(&built, part)))
 }
 
+/// Returns false, unless `fault` is that an allocation failed.
+fn without_plan(fault: PlanFault<'_>) -> Result<bool, AllocError>
+    ensures { IfOk result (λ is. (is ≡ false) × IsFalse (is_memory fault.entry)) }
+{
+    match fault {
+        PlanFault::Memory => Err(AllocError),
+        _ => Ok(false),
+    }
+}
+
 /// Returns whether `words` have a plan in which `part` is built.
 fn is_built_by(
     alloc: Global,
@@ -65,8 +76,7 @@ fn is_built_by(
             drop(plan);
             is
         }
-        Err(PlanFault::Memory) => Err(AllocError),
-        Err(_) => Ok(false),
+        Err(fault) => without_plan(fault),
     }
 }
 
