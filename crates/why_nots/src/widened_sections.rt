@@ -155,6 +155,14 @@ pub(crate) fn widened_sections(
             sections
         }
         Err(PlanFault::Memory) => Err(AllocError),
-        Err(fault) => unplanned_sections(alloc, form, base.workspace, words, widening, parts, fault),
+        Err(fault) => unplanned_sections(
+            alloc,
+            form,
+            base.workspace,
+            words,
+            widening,
+            parts,
+            fault,
+        ),
     }
 }
