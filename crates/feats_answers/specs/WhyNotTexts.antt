@@ -13,6 +13,7 @@ use Rattle.plan_rows.specs.declared.side.Side.TheVariants.{Target, Host}
 use Rattle.cargo_plans.specs.plan_steps.Plans.{PlanText}
 use Rattle.why_nots.specs.Parts.{PartText}
 use Rattle.why_nots.specs.Texts.{IsWhyNotText}
+use Rattle.why_nots.specs.Typed.{is_single}
 use Rattle.feats_words.specs.declared.command_arguments.Format.{Format}
 use Rattle.feats_answers.specs.AnswerTexts.{AnswerText}
 use Rattle.feats_answers.specs.Gathered.{gathered}
@@ -44,5 +45,5 @@ pub record IsWhyNotAnswer (form : Format) (w : WorkspaceText) (specs : List Decl
   pub parts : List NamedText
   pub are_parts : ArePartsOf w words word parts
   pub shown : List Text
-  pub are_shown : AllZip (IsWhyNotText form w words every) (off_parts words.selection.split plan parts) shown
+  pub are_shown : AllZip (IsWhyNotText form (is_single (off_parts words.selection.split plan parts)) w words every) (off_parts words.selection.split plan parts) shown
   pub is_answer : answer ≡ gathered form w.packages word parts on_end shown

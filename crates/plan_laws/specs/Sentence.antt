@@ -14,6 +14,6 @@ use Rattle.widening_lines.specs.Lines.{sentence}
 -- THE SENTENCE IS TRUE: if it is the last line of a text of `why-not`, the text's part is off in each plan by words that those of the command
 -- line cover.
 abbrev pub SentenceIsTrue : Type 0
-SentenceIsTrue = (w : WorkspaceText) (words : WordsText) (every : Text → Bool) (part : PartText) (text : Text) → IsWorkspace w → HoldsEach w every
-    → IsWhyNotText format.Text w words every part text → EndsWithLine text sentence
+SentenceIsTrue = (alone : Bool) (w : WorkspaceText) (words : WordsText) (every : Text → Bool) (part : PartText) (text : Text) → IsWorkspace w → HoldsEach w every
+    → IsWhyNotText format.Text alone w words every part text → EndsWithLine text sentence
     → (others : WordsText) (plan : PlanText) → IsCovered w others words → IsPlanOf w others plan → IsOffInPlan plan part.number part.label

@@ -1,6 +1,6 @@
 -- What is said of one widening, from the steps that were found in its plan, or from the reason why there is no plan.
 use Rattle.std.proofs.Common.{◌≡◌, ◌∙◌, ap, sym, subst, refl, ℕ, Bool, true, false, ◌||◌, List, [], ◌∷◌, map, Option, None, Some}
-use Rattle.std.specs.Prelude.{IsFalse}
+use Rattle.std.specs.Prelude.{IsFalse, zip}
 use Rattle.std.specs.Global.{Vec}
 use Rattle.std.specs.List.{AllZip, list_any}
 use Rattle.std.proofs.lemmas.Bool.{or_parts}
@@ -29,10 +29,11 @@ use Rattle.why_nots.specs.PartView.{part_text}
 use Rattle.why_nots.specs.Parts.{PartText, spot_on}
 use Rattle.why_nots.specs.Standings as standing
 use Rattle.why_nots.specs.Standings.{StandingText, standing_in, standing_of}
-use Rattle.why_nots.specs.Texts.{IsSection}
+use Rattle.why_nots.specs.Texts.{IsSection, section_text}
 use Rattle.why_nots.specs.Unbuilt.{message_if}
 use Rattle.why_nots.specs.declared.parts.OffPart.{OffPart}
-use Rattle.why_nots.specs.inner.Lists.{answer_by, answer_sections, answers_by, first_spot, has_part, message_about, message_by, same_sections, side_where}
+use Rattle.why_nots.specs.declared.told.PartAnswer.{PartAnswer}
+use Rattle.why_nots.specs.inner.Lists.{IsTold, ToldText, about_value, answer_by, answers_by, first_spot, has_part, message_about, message_by, same_sections, side_where, told_sections}
 use Rattle.why_nots.proofs.StandingLemmas.{built_is_on, off_is_off}
 
 true_or : (a b : Bool) → (a || b) ≡ false → (a ≡ false) × (b ≡ false)
@@ -74,26 +75,47 @@ module _ (w : WorkspaceText) (words : WordsText) (plan : PlanText) (states : Sid
   pub messages_are : (sides : Bool) (parts : List PartText) (messages : List (Option Text)) → sides ≡ words.selection.split → messages ≡ map (message_about w.packages sides lacking states) parts → messages ≡ map (message_in w words plan) parts
   messages_are sides parts messages split are = are ∙ ap (λ b. map (message_about w.packages b lacking states) parts) split ∙ messages_in parts
 
-module _ (form : Format) (w : WorkspaceText) (words : WordsText) (v : Widening) where
-  -- the sections by the messages, and by what was found at the first spots
+module _ (form : Format) (alone : Bool) (w : WorkspaceText) (here words : WordsText) (v : Widening) where
+  -- the answers by the messages, and by what was found at the first spots
   each_found : (plan : PlanText) (parts : List PartText) (spots : List Spot) (founds : List (Option (Vec WhyStep))) → IsPlanOf w words plan → map spot_text spots ≡ map (first_spot (state_of words.selection.split plan)) parts
       → AllZip (λ at found. AnswersBy w words plan.on (spot_text at) (found_text found)) spots founds
-      → AllZip (IsSection form w words v) parts (answer_sections form w.packages words v parts (answers_by (map (message_in w words plan) parts) (map found_text founds)))
-  each_found plan [] [] [] is_plan same zip = tt
-  each_found plan [] [] (f ∷ fs) is_plan same zip = absurd zip
-  each_found plan [] (s ∷ ss) founds is_plan same zip = cc
-  each_found plan (p ∷ ps) [] founds is_plan same zip = cc
-  each_found plan (p ∷ ps) (s ∷ ss) [] is_plan same zip = absurd zip
-  each_found plan (p ∷ ps) (s ∷ ss) (f ∷ fs) is_plan same zip =
-      let here : spot_text s ≡ first_spot (state_of words.selection.split plan) p = cc in
+      → AllZip (IsAnswer w words) parts (answers_by (map (message_in w words plan) parts) (map found_text founds))
+  each_found plan [] [] [] is_plan same found = tt
+  each_found plan [] [] (f ∷ fs) is_plan same found = absurd found
+  each_found plan [] (s ∷ ss) founds is_plan same found = cc
+  each_found plan (p ∷ ps) [] founds is_plan same found = cc
+  each_found plan (p ∷ ps) (s ∷ ss) [] is_plan same found = absurd found
+  each_found plan (p ∷ ps) (s ∷ ss) (f ∷ fs) is_plan same found =
+      let at : spot_text s ≡ first_spot (state_of words.selection.split plan) p = cc in
       let more : map spot_text ss ≡ map (first_spot (state_of words.selection.split plan)) ps = cc in (
-        record {
-          answer = answer_by (message_in w words plan p, found_text f);
-          is_answer = answered w words plan p (found_text f) is_plan (subst (λ (spot : SpotText). AnswersBy w words plan.on spot (found_text f)) here zip.0);
-          is_text = refl;
-        },
-        each_found plan ps ss fs is_plan more zip.1,
+        answered w words plan p (found_text f) is_plan (subst (λ (spot : SpotText). AnswersBy w words plan.on spot (found_text f)) at found.0),
+        each_found plan ps ss fs is_plan more found.1,
       )
+
+  -- the sections by the answers, and by the words to type
+  each_told : (parts : List PartText) (answers : List AnswerText) (tolds : List ToldText) → AllZip (IsAnswer w words) parts answers → AllZip (IsTold alone w here words) (zip parts answers) tolds
+      → AllZip (IsSection form alone w here words v) parts (told_sections form w.packages words v tolds)
+  each_told [] [] [] found told = tt
+  each_told [] [] (t ∷ ts) found told = absurd told
+  each_told [] (a ∷ rest) tolds found told = absurd found
+  each_told (p ∷ ps) [] tolds found told = absurd found
+  each_told (p ∷ ps) (a ∷ rest) [] found told = absurd told
+  each_told (p ∷ ps) (a ∷ rest) (t ∷ ts) found told = (
+    record {
+      answer = a;
+      is_answer = found.0;
+      typed = t.1;
+      is_typed = told.0.1;
+      is_text = ap (λ (about : PartText × AnswerText). section_text form w.packages words v about.0 about.1 t.1) told.0.0;
+    },
+    each_told ps rest ts found.1 told.1,
+  )
+
+  told_by : (abouts : List PartAnswer) (tolds : List ToldText) → AllZip (λ about. IsTold alone w here words (about_value about)) abouts tolds → AllZip (IsTold alone w here words) (map about_value abouts) tolds
+  told_by [] [] told = tt
+  told_by [] (t ∷ ts) told = absurd told
+  told_by (a ∷ rest) [] told = absurd told
+  told_by (a ∷ rest) (t ∷ ts) told = (told.0, told_by rest ts told.1)
 
   by_each : (plan : PlanText) (spots : List Spot) (founds : List (Option (Vec WhyStep))) → AnswersEachBy w words plan.on spots founds → AllZip (λ at found. AnswersBy w words plan.on (spot_text at) (found_text found)) spots founds
   by_each plan spots founds answers = go spots founds answers.holds
@@ -105,45 +127,55 @@ module _ (form : Format) (w : WorkspaceText) (words : WordsText) (v : Widening) 
       go (s ∷ ss) [] zip = absurd zip
       go (s ∷ ss) (f ∷ fs) zip = (record { chosen = answers.chosen; are_accepted = answers.are_accepted; holds = zip.0 }, go ss fs zip.1)
 
-  pub explained_by : (plan : PlanText) (states : Side → ℕ → LabelName → PartState) (parts : List PartText) (messages : List (Option Text)) (spots taken : List Spot) (founds : List (Option (Vec WhyStep))) (answers : List AnswerText) (sections : List Text)
+  pub explained_by : (plan : PlanText) (states : Side → ℕ → LabelName → PartState) (parts : List PartText) (messages : List (Option Text)) (spots taken : List Spot) (founds : List (Option (Vec WhyStep))) (answers : List AnswerText)
       → IsPlanOf w words plan → states ≡ state_of words.selection.split plan → messages ≡ map (message_in w words plan) parts → map spot_text spots ≡ map (first_spot states) parts
-      → taken ≡ spots → AnswersEachBy w words plan.on taken founds → answers ≡ answers_by messages (map found_text founds) → sections ≡ answer_sections form w.packages words v parts answers
-      → AllZip (IsSection form w words v) parts sections
-  explained_by plan states parts messages spots taken founds answers sections is_plan states_are are same is_taken found by shown =
-      subst (AllZip (IsSection form w words v) parts) (sym (shown ∙ ap (λ z. answer_sections form w.packages words v parts z) (by ∙ ap (λ ms. answers_by ms (map found_text founds)) are)))
+      → taken ≡ spots → AnswersEachBy w words plan.on taken founds → answers ≡ answers_by messages (map found_text founds) → AllZip (IsAnswer w words) parts answers
+  explained_by plan states parts messages spots taken founds answers is_plan states_are are same is_taken found by =
+      subst (AllZip (IsAnswer w words) parts) (sym (by ∙ ap (λ ms. answers_by ms (map found_text founds)) are))
       (each_found plan parts spots founds is_plan (same ∙ ap (λ (s : Side → ℕ → LabelName → PartState). map (first_spot s) parts) states_are)
       (by_each plan spots founds (subst (λ ss. AnswersEachBy w words plan.on ss founds) is_taken found)))
 
+  pub told_sections_are : (parts : List PartText) (answers : List AnswerText) (abouts taken : List PartAnswer) (tolds : List ToldText) (sections : List Text)
+      → AllZip (IsAnswer w words) parts answers → map about_value abouts ≡ zip parts answers → taken ≡ abouts → AllZip (λ about. IsTold alone w here words (about_value about)) taken tolds
+      → sections ≡ told_sections form w.packages words v tolds → AllZip (IsSection form alone w here words v) parts sections
+  told_sections_are parts answers abouts taken tolds sections found pairs is_taken told shown =
+      subst (AllZip (IsSection form alone w here words v) parts) (sym shown)
+      (each_told parts answers tolds found (subst (λ ps. AllZip (IsTold alone w here words) ps tolds) pairs (told_by abouts tolds (subst (λ ts. AllZip (λ about. IsTold alone w here words (about_value about)) ts tolds) is_taken told))))
+
   each_off : (plan : PlanText) (parts : List OffPart) → IsPlanOf w words plan → list_any (λ part. has_part plan.on (part_text part)) parts ≡ false
-      → AllZip (IsSection form w words v) (map part_text parts) (same_sections form w.packages words v off (map part_text parts))
+      → AllZip (IsSection form alone w here words v) (map part_text parts) (same_sections form w.packages words v off (map part_text parts))
   each_off plan [] is_plan none = tt
   each_off plan (p ∷ ps) is_plan none =
       let parts_off = or_parts _ _ none in (
         record {
           answer = off;
           is_answer = record { plan = plan; is_plan = is_plan; is_off = parts_off.0 };
+          typed = None;
+          is_typed = refl;
           is_text = refl;
         },
         each_off plan ps is_plan parts_off.1,
       )
 
   pub all_off : (plan : PlanText) (parts : List OffPart) (one_is : Bool) (sections : List Text) → IsPlanOf w words plan → one_is ≡ list_any (λ part. has_part plan.on (part_text part)) parts → one_is ≡ false
-      → sections ≡ same_sections form w.packages words v off (map part_text parts) → AllZip (IsSection form w words v) (map part_text parts) sections
-  all_off plan parts one_is sections is_plan says none shown = subst (AllZip (IsSection form w words v) (map part_text parts)) (sym shown) (each_off plan parts is_plan (sym says ∙ none))
+      → sections ≡ same_sections form w.packages words v off (map part_text parts) → AllZip (IsSection form alone w here words v) (map part_text parts) sections
+  all_off plan parts one_is sections is_plan says none shown = subst (AllZip (IsSection form alone w here words v) (map part_text parts)) (sym shown) (each_off plan parts is_plan (sym says ∙ none))
 
   each_refused : (fault : PlanFault) (message : Text) (parts : List PartText) → IsRefusal w words fault → IsFalse (is_memory fault) → message ≡ plan_message w.packages fault
-      → AllZip (IsSection form w words v) parts (same_sections form w.packages words v (not_planned message) parts)
+      → AllZip (IsSection form alone w here words v) parts (same_sections form w.packages words v (not_planned message) parts)
   each_refused fault message [] refusal claimed is = tt
   each_refused fault message (p ∷ ps) refusal claimed is = (
     record {
       answer = not_planned message;
       is_answer = record { fault = fault; is_fault = refusal; is_claimed = claimed; is_message = is };
+      typed = None;
+      is_typed = refl;
       is_text = refl;
     },
     each_refused fault message ps refusal claimed is,
   )
 
   pub unplanned : (fault : PlanFault) (parts : List PartText) (sections : List Text) → IsRefusal w words fault → IsFalse (is_memory fault)
-      → sections ≡ same_sections form w.packages words v (not_planned (plan_message w.packages fault)) parts → AllZip (IsSection form w words v) parts sections
+      → sections ≡ same_sections form w.packages words v (not_planned (plan_message w.packages fault)) parts → AllZip (IsSection form alone w here words v) parts sections
   unplanned fault parts sections refusal claimed shown =
-      subst (AllZip (IsSection form w words v) parts) (sym shown) (each_refused fault (plan_message w.packages fault) parts refusal claimed refl)
+      subst (AllZip (IsSection form alone w here words v) parts) (sym shown) (each_refused fault (plan_message w.packages fault) parts refusal claimed refl)

@@ -14,6 +14,8 @@ use Rattle.why_nots.specs.Answers.{AnswerText, IsAnswer, message_in}
 use Rattle.why_nots.specs.Lines.{said_of}
 use Rattle.why_nots.specs.Objects.{answer_tokens, head_tokens}
 use Rattle.why_nots.specs.Parts.{PartText, title_of}
+use Rattle.why_nots.specs.Tries.{TypedText}
+use Rattle.why_nots.specs.Typed.{IsTyped}
 
 -- The beginning of a text: a line that says that what has this title is off, or the message about it. Objects have none.
 abbrev pub head_by : Format → Text → Option Text → Text
@@ -24,25 +26,28 @@ head_by format.Json title message = []
 abbrev pub head_text : Format → WorkspaceText → WordsText → PlanText → PartText → Text
 head_text form w words plan part = head_by form (title_of w.packages part) (message_in w words plan part)
 
--- What is said of a widening, where its words have this answer about the part.
-abbrev pub section_text : Format → List PackageText → WordsText → Widening → PartText → AnswerText → Text
-section_text format.Text packages words v part answer = widening_lines v (said_of packages words answer)
-section_text format.Json packages words v part answer = object_line (begin_object ∷ (head_tokens packages part v ++ answer_tokens packages words answer))
+-- What is said of a widening, where its words have this answer about the part, and these are the words to type.
+abbrev pub section_text : Format → List PackageText → WordsText → Widening → PartText → AnswerText → Option TypedText → Text
+section_text format.Text packages words v part answer typed = widening_lines v (said_of packages words answer typed)
+section_text format.Json packages words v part answer typed = object_line (begin_object ∷ (head_tokens packages part v ++ answer_tokens packages words answer typed))
 
--- What is said of a widening, by which the words are these.
-pub record IsSection (form : Format) (w : WorkspaceText) (words : WordsText) (v : Widening) (part : PartText) (text : Text) : Type 0 where
+-- What is said of a widening, by which the words are these. Those of the command line are `here`.
+pub record IsSection (form : Format) (alone : Bool) (w : WorkspaceText) (here words : WordsText) (v : Widening) (part : PartText) (text : Text) : Type 0 where
   pub answer : AnswerText
   pub is_answer : IsAnswer w words part answer
-  pub is_text : text ≡ section_text form w.packages words v part answer
+  pub typed : Option TypedText
+  pub is_typed : IsTyped alone w here words part answer typed
+  pub is_text : text ≡ section_text form w.packages words v part answer typed
 
 -- What is said of it for each widening. `every` is which platform specs hold on every platform.
-abbrev pub AreSections : Format → WorkspaceText → WordsText → (Text → Bool) → PartText → (Widening → Text) → Type 0
-AreSections form w words every part section = (v : Widening) → IsSection form w (widened every v words) v part (section v)
+abbrev pub AreSections : Format → Bool → WorkspaceText → WordsText → (Text → Bool) → PartText → (Widening → Text) → Type 0
+AreSections form alone w words every part section = (v : Widening) → IsSection form alone w words (widened every v words) v part (section v)
 
--- THE TEXT about a part that isn't built in the plan of the words: what is said of it for each widening.
-pub record IsWhyNotText (form : Format) (w : WorkspaceText) (words : WordsText) (every : Text → Bool) (part : PartText) (text : Text) : Type 0 where
+-- THE TEXT about a part that isn't built in the plan of the words: what is said of it for each widening. `alone` is whether there is no
+-- text about another part.
+pub record IsWhyNotText (form : Format) (alone : Bool) (w : WorkspaceText) (words : WordsText) (every : Text → Bool) (part : PartText) (text : Text) : Type 0 where
   pub plan : PlanText
   pub is_plan : IsPlanOf w words plan
   pub section : Widening → Text
-  pub are_sections : AreSections form w words every part section
+  pub are_sections : AreSections form alone w words every part section
   pub is_text : text ≡ head_text form w words plan part ++ flat_map section widenings

@@ -29,6 +29,8 @@ pub(crate) struct Base<'b, 'v, 'w, 'n, 's, 'p> {
     pub(crate) plan: &'b Plan<'p>,
     /// The platform on which each platform spec of `workspace` holds.
     pub(crate) every: &'n HeldSpecs<'s>,
+    /// True if the answer is about one part. Then words to type are looked for.
+    pub(crate) alone: bool,
 }
 
 /// Returns the sections about `widening` of the build `base` and each of `parts`. A widening that adds nothing has the plan of the build.
@@ -40,15 +42,12 @@ pub(crate) fn sections_by(
     parts: &[OffPart<'_>],
 ) -> Result<Vec<Vec<u8>>, AllocError>
     requires { IsPlanOf (workspace_text base.workspace.now) (words_text holds_on base.words.now) (plan_text base.plan.now) }
-    ensures { IfOk result (λ sections. AllZip (IsSection form (workspace_text base.entry.workspace.now) (spec.widened (holds_on base.entry.every.now) widening (words_text holds_on base.entry.words.now)) widening) (map part_text parts.now) (texts_of sections.items)) }
+    ensures { IfOk result (λ sections. AllZip (IsSection form base.entry.alone (workspace_text base.entry.workspace.now) (words_text holds_on base.entry.words.now) (spec.widened (holds_on base.entry.every.now) widening (words_text holds_on base.entry.words.now)) widening) (map part_text parts.now) (texts_of sections.items)) }
 {
-    let workspace = base.workspace;
     if adds(base.words, widening) {
         let wider = widened(base.words, widening, base.every);
-        widened_sections(alloc, form, workspace, &wider, widening, parts)
+        widened_sections(alloc, form, base, &wider, widening, parts)
     } else {
-        planned_sections(
-            alloc, form, workspace, base.words, widening, parts, base.plan,
-        )
+        planned_sections(alloc, form, base, base.words, widening, parts, base.plan)
     }
 }

@@ -11,9 +11,13 @@ mod objects;
 mod parts;
 mod sections;
 mod settings;
+mod small_words;
 mod spots;
 mod standings;
 mod texts;
+mod told;
+mod tries;
+mod typed_words;
 mod widened_sections;
 
 pub use parts::OffPart;

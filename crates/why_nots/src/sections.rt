@@ -1,5 +1,5 @@
 //! Sections: each is the text about one widening and one part.
-ghost use Rattle.std.specs.Prelude.{◌≡◌, IfOk, map};
+ghost use Rattle.std.specs.Prelude.{◌≡◌, ◌++◌, IfOk, map, option_map, string_bytes};
 ghost use Rattle.cargo_plans.specs.WordsView.{words_text};
 ghost use Rattle.cargo_workspaces.specs.WorkspaceView.{workspace_text};
 ghost use Rattle.plan_platforms.specs.HeldSpecs.{holds_on};
@@ -8,20 +8,21 @@ ghost use Rattle.widening_lines.specs.Lines.{on_by, widening_lines};
 ghost use Rattle.widening_lines.specs.SaidView.{said_text};
 ghost use Rattle.why_lines.specs.Lines.{why_lines as lines_of};
 ghost use Rattle.why_nots.specs.Lines.{said_of, settings_of as settings_by};
-ghost use Rattle.why_nots.specs.PartView.{part_text};
-ghost use Rattle.why_nots.specs.Texts as spec;
-ghost use Rattle.why_nots.specs.inner.Lists.{answer_text};
+ghost use Rattle.why_nots.specs.Typed.{typed_line};
+ghost use Rattle.why_nots.specs.inner.Lists.{answer_text, told_section, told_value, typed_value};
 
 use crate::answer::Answer;
 use crate::objects::object_of;
-use crate::parts::OffPart;
 use crate::settings::settings_of;
+use crate::told::Told;
+use crate::typed_words::{TypedWords, typed_text};
 use cargo_plans::PlanWords;
 use cargo_workspaces::Workspace;
 use feats_words::Format;
 use plan_platforms::HeldSpecs;
 use plan_whys::WhyStep;
 use plan_widenings::Widening;
+use shown_texts::escaped;
 use std::alloc::{AllocError, Global};
 use why_lines::why_lines;
 use widening_lines::{Said, push_widening};
@@ -35,52 +36,76 @@ fn lines_by(alloc: Global, widening: Widening, said: Said<'_>) -> Result<Vec<u8>
     Ok(text)
 }
 
-/// Returns the lines about `widening` and a part that is on by `steps`.
+/// Returns `lines` and the line with the words `typed`. Control characters in names are escaped.
+fn with_typed(
+    alloc: Global,
+    lines: String,
+    typed: Option<TypedWords<'_>>,
+) -> Result<String, AllocError>
+    ensures { IfOk result (λ text. string_bytes text ≡ string_bytes lines ++ typed_line (option_map typed_value typed.entry)) }
+{
+    let mut text = lines;
+    if let Some(typed) = typed {
+        let words = typed_text(alloc, typed)?;
+        let words = escaped(alloc, words.as_str())?;
+        text.push_str("words: ")?;
+        text.push_str(words.as_str())?;
+        text.push_str("\n")?;
+    }
+    Ok(text)
+}
+
+/// Returns the lines about `widening` and a part that is on by `steps`; `typed` are the words to type.
 fn explained_lines(
     alloc: Global,
     workspace: &Workspace<'_>,
     words: &PlanWords<'_, '_, HeldSpecs<'_>>,
     widening: Widening,
     steps: &[WhyStep<'_>],
+    typed: Option<TypedWords<'_>>,
 ) -> Result<Vec<u8>, AllocError>
-    ensures { IfOk result (λ text. text.items ≡ widening_lines widening (on_by (lines_of (workspace_text workspace.now).packages (settings_by (words_text holds_on words.now)) (map why_text steps.now)))) }
+    ensures { IfOk result (λ text. text.items ≡ widening_lines widening (on_by (lines_of (workspace_text workspace.now).packages (settings_by (words_text holds_on words.now)) (map why_text steps.now) ++ typed_line (option_map typed_value typed.entry)))) }
 {
-    let lines = why_lines(alloc, workspace, &settings_of(words), steps)?;
+    let steps = why_lines(alloc, workspace, &settings_of(words), steps)?;
+    let lines = with_typed(alloc, steps, typed)?;
     lines_by(alloc, widening, Said::On(lines.as_str()))
 }
 
-/// Returns the lines about `widening` and a part for which its words `words` have the answer `answer`.
+/// Returns the lines about `widening` and a part for which its words `words` have the answer `answer`; `typed` are the words to type.
 fn lines_of_answer(
     alloc: Global,
     workspace: &Workspace<'_>,
     words: &PlanWords<'_, '_, HeldSpecs<'_>>,
     widening: Widening,
     answer: Answer<'_, '_>,
+    typed: Option<TypedWords<'_>>,
 ) -> Result<Vec<u8>, AllocError>
-    ensures { IfOk result (λ text. text.items ≡ widening_lines widening (said_of (workspace_text workspace.now).packages (words_text holds_on words.now) (answer_text answer.entry))) }
+    ensures { IfOk result (λ text. text.items ≡ widening_lines widening (said_of (workspace_text workspace.now).packages (words_text holds_on words.now) (answer_text answer.entry) (option_map typed_value typed.entry))) }
 {
     match answer {
-        Answer::Explained(steps) => explained_lines(alloc, workspace, words, widening, steps),
+        Answer::Explained(steps) => {
+            explained_lines(alloc, workspace, words, widening, steps, typed)
+        }
         Answer::Unbuilt(message) => lines_by(alloc, widening, Said::Unbuilt(message)),
         Answer::Off => lines_by(alloc, widening, Said::Off),
         Answer::NotPlanned(message) => lines_by(alloc, widening, Said::NotPlanned(message)),
     }
 }
 
-/// Returns the section about `widening` and `part`, for which its words `words` have the answer `answer`.
+/// Returns the section about `widening`, whose words are `words`, and the part of `told`.
 pub(crate) fn section_of(
     alloc: Global,
     form: Format,
     workspace: &Workspace<'_>,
     words: &PlanWords<'_, '_, HeldSpecs<'_>>,
     widening: Widening,
-    part: OffPart<'_>,
-    answer: Answer<'_, '_>,
+    told: Told<'_, '_, '_>,
 ) -> Result<Vec<u8>, AllocError>
-    ensures { IfOk result (λ text. text.items ≡ spec.section_text form (workspace_text workspace.now).packages (words_text holds_on words.now) widening (part_text part.entry) (answer_text answer.entry)) }
+    ensures { IfOk result (λ text. text.items ≡ told_section form (workspace_text workspace.now).packages (words_text holds_on words.now) widening (told_value told.entry)) }
 {
+    let answer = told.about.answer;
     match form {
-        Format::Text => lines_of_answer(alloc, workspace, words, widening, answer),
-        Format::Json => object_of(alloc, workspace, words, widening, part, answer),
+        Format::Text => lines_of_answer(alloc, workspace, words, widening, answer, told.typed),
+        Format::Json => object_of(alloc, workspace, words, widening, told),
     }
 }

@@ -11,6 +11,7 @@ ghost use Rattle.plan_widenings.specs.Widenings.{widened};
 ghost use Rattle.widening_lines.specs.Lines.{head_line};
 ghost use Rattle.why_nots.specs.PartView.{part_text};
 ghost use Rattle.why_nots.specs.Texts as spec;
+ghost use Rattle.why_nots.specs.Typed as words_to_type;
 ghost use Rattle.why_nots.specs.inner.Lists as lists;
 ghost use Rattle.why_nots.specs.inner.Lists.{joined as joined_texts, optional_texts, texts_of};
 
@@ -94,18 +95,28 @@ fn with_sections(
 ) -> Result<Vec<Vec<u8>>, AllocError>
     requires { IsPlanOf (workspace_text base.workspace.now) (words_text holds_on base.words.now) (plan_text base.plan.now) }
     ensures { IfOk result (λ longer. (sections : List Text)
-        × AllZip (spec.IsSection form (workspace_text base.entry.workspace.now) (widened (holds_on base.entry.every.now) widening (words_text holds_on base.entry.words.now)) widening) (map part_text parts.now) sections
+        × AllZip (spec.IsSection form base.entry.alone (workspace_text base.entry.workspace.now) (words_text holds_on base.entry.words.now) (widened (holds_on base.entry.every.now) widening (words_text holds_on base.entry.words.now)) widening) (map part_text parts.now) sections
         × (texts_of longer.items ≡ joined_texts (texts_of texts.now) sections)) }
 {
     let sections = sections_by(alloc, form, base, widening, parts)?;
     joined(alloc, texts, &sections)
 }
 
+/// Returns whether there is one part.
+fn is_single(parts: &[OffPart<'_>]) -> bool
+    ensures { result ≡ words_to_type.is_single (map part_text parts.now) }
+{
+    match parts {
+        [_] => true,
+        _ => false,
+    }
+}
+
 /// Returns a text about each of `parts`, which aren't built by `words`, whose plan is `plan`. For each widening of the selection it says
 /// whether the part is built there, and why; that it is on there and isn't built; that it is off; or why there is no plan. If a part is
 /// off with all of them together, the last line of its text says that no choice of members, features of members, tests and platforms
 /// turns it on. `every` is the platform on which each platform spec of `workspace` holds. A widening that adds to the words needs one
-/// plan.
+/// plan. If there is one part, a widening in which it is built ends with the words to type; each of the words that are tried needs a plan.
 pub fn why_not_texts<'n, 's>(
     alloc: Global,
     form: Format,
@@ -116,13 +127,14 @@ pub fn why_not_texts<'n, 's>(
     parts: &[OffPart<'_>],
 ) -> Result<Vec<Vec<u8>>, AllocError>
     requires { IsPlanOf (workspace_text workspace.now) (words_text holds_on words.now) (plan_text plan.now) }
-    ensures { IfOk result (λ texts. AllZip (spec.IsWhyNotText form (workspace_text workspace.now) (words_text holds_on words.now) (holds_on every.now)) (map part_text parts.now) (texts_of texts.items)) }
+    ensures { IfOk result (λ texts. AllZip (spec.IsWhyNotText form (words_to_type.is_single (map part_text parts.now)) (workspace_text workspace.now) (words_text holds_on words.now) (holds_on every.now)) (map part_text parts.now) (texts_of texts.items)) }
 {
     let base = Base {
         workspace,
         words,
         plan,
         every,
+        alone: is_single(parts),
     };
     let mut texts = heads_of(alloc, form, base, parts)?;
     let all = Widening::all();

@@ -15,11 +15,14 @@ ghost use Rattle.why_nots.specs.inner.Lists as spec;
 ghost use Rattle.why_nots.specs.inner.Lists.{answer_text, texts_of};
 
 use crate::answer::{Answer, answers_by};
+use crate::base::Base;
 use crate::builds::{builds_of, messages_about};
 use crate::messages::message_of;
 use crate::parts::OffPart;
 use crate::sections::section_of;
+use crate::small_words::told_each;
 use crate::spots::{first_spots, is_one_on};
+use crate::told::{PartAnswer, Told, with_answers};
 use cargo_plans::{Plan, PlanFault, PlanWords, plan};
 use cargo_workspaces::Workspace;
 use feats_words::Format;
@@ -28,22 +31,20 @@ use plan_whys::why_each;
 use plan_widenings::Widening;
 use std::alloc::{AllocError, Global};
 
-/// Returns the sections about `widening` and each of `parts`. The answer about a part is at its place in `answers`.
-fn answer_sections(
+/// Returns the sections about `widening`, whose words are `words`, and the part of each of `tolds`.
+fn told_sections(
     alloc: Global,
     form: Format,
     workspace: &Workspace<'_>,
     words: &PlanWords<'_, '_, HeldSpecs<'_>>,
     widening: Widening,
-    parts: &[OffPart<'_>],
-    answers: &[Answer<'_, '_>],
+    tolds: &[Told<'_, '_, '_>],
 ) -> Result<Vec<Vec<u8>>, AllocError>
-    ensures { IfOk result (λ sections. texts_of sections.items ≡ spec.answer_sections form (workspace_text workspace.now).packages (words_text holds_on words.now) widening (map part_text parts.now) (map answer_text answers.now)) }
+    ensures { IfOk result (λ sections. texts_of sections.items ≡ spec.told_sections form (workspace_text workspace.now).packages (words_text holds_on words.now) widening (map spec.told_value tolds.now)) }
 {
-    let mut sections = Vec::with_capacity(alloc, parts.len())?;
-    for (part, answer) in parts.iter().zip(answers) {
-        let section = section_of(alloc, form, workspace, words, widening, *part, *answer)?;
-        sections.push(section)?;
+    let mut sections = Vec::with_capacity(alloc, tolds.len())?;
+    for told in tolds {
+        sections.push(section_of(alloc, form, workspace, words, widening, *told)?)?;
     }
     Ok(sections)
 }
@@ -62,7 +63,12 @@ fn same_sections(
 {
     let mut sections = Vec::with_capacity(alloc, parts.len())?;
     for part in parts {
-        sections.push(section_of(alloc, form, workspace, words, widening, *part, answer)?)?;
+        let about = PartAnswer {
+            part: *part,
+            answer,
+        };
+        let told = Told { about, typed: None };
+        sections.push(section_of(alloc, form, workspace, words, widening, told)?)?;
     }
     Ok(sections)
 }
@@ -71,21 +77,24 @@ fn same_sections(
 fn explained_sections(
     alloc: Global,
     form: Format,
-    workspace: &Workspace<'_>,
+    base: Base<'_, '_, '_, '_, '_, '_>,
     words: &PlanWords<'_, '_, HeldSpecs<'_>>,
     widening: Widening,
     parts: &[OffPart<'_>],
     plan: &Plan<'_>,
 ) -> Result<Vec<Vec<u8>>, AllocError>
-    requires { IsPlanOf (workspace_text workspace.now) (words_text holds_on words.now) (plan_text plan.now) }
-    ensures { IfOk result (λ sections. AllZip (IsSection form (workspace_text workspace.now) (words_text holds_on words.now) widening) (map part_text parts.now) (texts_of sections.items)) }
+    requires { IsPlanOf (workspace_text base.workspace.now) (words_text holds_on words.now) (plan_text plan.now) }
+    ensures { IfOk result (λ sections. AllZip (IsSection form base.entry.alone (workspace_text base.entry.workspace.now) (words_text holds_on base.entry.words.now) (words_text holds_on words.now) widening) (map part_text parts.now) (texts_of sections.items)) }
 {
+    let workspace = base.workspace;
     let builds = builds_of(alloc, workspace, words, plan)?;
     let messages = messages_about(alloc, workspace, &builds, parts)?;
     let spots = first_spots(alloc, &builds, parts)?;
     let founds = why_each(alloc, workspace, words, plan, &spots)?;
     let answers = answers_by(alloc, &messages, &founds)?;
-    answer_sections(alloc, form, workspace, words, widening, parts, &answers)
+    let abouts = with_answers(alloc, parts, &answers)?;
+    let tolds = told_each(alloc, base, words, &abouts)?;
+    told_sections(alloc, form, workspace, words, widening, &tolds)
 }
 
 /// Returns the sections about `widening` and each of `parts`, by `plan`, the plan of the words `words` of `widening`. The plan is walked only
@@ -93,20 +102,20 @@ fn explained_sections(
 pub(crate) fn planned_sections(
     alloc: Global,
     form: Format,
-    workspace: &Workspace<'_>,
+    base: Base<'_, '_, '_, '_, '_, '_>,
     words: &PlanWords<'_, '_, HeldSpecs<'_>>,
     widening: Widening,
     parts: &[OffPart<'_>],
     plan: &Plan<'_>,
 ) -> Result<Vec<Vec<u8>>, AllocError>
-    requires { IsPlanOf (workspace_text workspace.now) (words_text holds_on words.now) (plan_text plan.now) }
-    ensures { IfOk result (λ sections. AllZip (IsSection form (workspace_text workspace.now) (words_text holds_on words.now) widening) (map part_text parts.now) (texts_of sections.items)) }
+    requires { IsPlanOf (workspace_text base.workspace.now) (words_text holds_on words.now) (plan_text plan.now) }
+    ensures { IfOk result (λ sections. AllZip (IsSection form base.entry.alone (workspace_text base.entry.workspace.now) (words_text holds_on base.entry.words.now) (words_text holds_on words.now) widening) (map part_text parts.now) (texts_of sections.items)) }
 {
     if is_one_on(plan, parts) {
-        explained_sections(alloc, form, workspace, words, widening, parts, plan)
+        explained_sections(alloc, form, base, words, widening, parts, plan)
     } else {
         let answer = Answer::Off;
-        same_sections(alloc, form, workspace, words, widening, parts, answer)
+        same_sections(alloc, form, base.workspace, words, widening, parts, answer)
     }
 }
 
@@ -127,24 +136,33 @@ fn unplanned_sections<'p>(
     same_sections(alloc, form, workspace, words, widening, parts, answer)
 }
 
-/// Returns the sections about `widening`, whose words are `words`, and each of `parts`. It makes one plan.
+/// Returns the sections about `widening`, whose words are `words`, and each of `parts`. It makes one plan, and one for each of the words
+/// that are tried.
 pub(crate) fn widened_sections(
     alloc: Global,
     form: Format,
-    workspace: &Workspace<'_>,
+    base: Base<'_, '_, '_, '_, '_, '_>,
     words: &PlanWords<'_, '_, HeldSpecs<'_>>,
     widening: Widening,
     parts: &[OffPart<'_>],
 ) -> Result<Vec<Vec<u8>>, AllocError>
-    ensures { IfOk result (λ sections. AllZip (IsSection form (workspace_text workspace.now) (words_text holds_on words.now) widening) (map part_text parts.now) (texts_of sections.items)) }
+    ensures { IfOk result (λ sections. AllZip (IsSection form base.entry.alone (workspace_text base.entry.workspace.now) (words_text holds_on base.entry.words.now) (words_text holds_on words.now) widening) (map part_text parts.now) (texts_of sections.items)) }
 {
-    match plan(alloc, workspace, words) {
+    match plan(alloc, base.workspace, words) {
         Ok(plan) => {
-            let sections = planned_sections(alloc, form, workspace, words, widening, parts, &plan);
+            let sections = planned_sections(alloc, form, base, words, widening, parts, &plan);
             drop(plan);
             sections
         }
         Err(PlanFault::Memory) => Err(AllocError),
-        Err(fault) => unplanned_sections(alloc, form, workspace, words, widening, parts, fault),
+        Err(fault) => unplanned_sections(
+            alloc,
+            form,
+            base.workspace,
+            words,
+            widening,
+            parts,
+            fault,
+        ),
     }
 }

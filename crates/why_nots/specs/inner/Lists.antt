@@ -1,10 +1,10 @@
 -- The texts about several parts.
-use Rattle.std.specs.Prelude.{ℕ, Bool, List, ◌++◌, Option, Some, None, map, option_map, string_bytes}
+use Rattle.std.specs.Prelude.{◌≡◌, ℕ, Bool, List, ◌++◌, Option, Some, None, map, option_map, string_bytes}
 use Rattle.std.specs.List.{zip}
 use Rattle.std.specs.Global.{Vec}
 use Rattle.std.proofs.Common.{Global, String}
 use Rattle.built_parts.specs.declared.state.PartState.{PartState}
-use Rattle.cargo_workspaces.specs.Workspaces.{Text, PackageText}
+use Rattle.cargo_workspaces.specs.Workspaces.{Text, PackageText, WorkspaceText}
 use Rattle.cargo_plans.specs.Plans.{WordsText}
 use Rattle.cargo_plans.specs.plan_starts.PackageVisits.{PairVisit}
 use Rattle.feats_words.specs.declared.command_arguments.Format.{Format}
@@ -17,19 +17,29 @@ use Rattle.plan_widenings.specs.Findings.{are_some, sides_of}
 use Rattle.plan_widenings.specs.declared.widening.Widening.{Widening}
 use Rattle.why_lines.specs.Unbuilt.{unbuilt_message}
 use Rattle.why_nots.specs.Answers.{AnswerText, explained, not_planned, off, unbuilt}
+use Rattle.why_nots.specs.PartView.{part_text}
 use Rattle.why_nots.specs.Parts.{PartText, spot_on}
 use Rattle.why_nots.specs.Standings as standing
 use Rattle.why_nots.specs.Standings.{StandingText, standing_in}
 use Rattle.why_nots.specs.Texts.{head_by, section_text}
 use Rattle.why_nots.specs.Unbuilt.{message_if, unbuilt_at}
+use Rattle.why_nots.specs.Tries.{TypedText}
+use Rattle.why_nots.specs.Typed.{IsTyped}
 use Rattle.why_nots.specs.declared.answer.Answer.{Answer}
 use Rattle.why_nots.specs.declared.answer.Answer.TheVariants as answer
+use Rattle.why_nots.specs.declared.told.PartAnswer.{PartAnswer}
+use Rattle.why_nots.specs.declared.told.Told.{Told}
+use Rattle.why_nots.specs.declared.typed_words.TypedWords.{TypedWords}
 
 abbrev pub texts_of : List (Vec ℕ) → List Text
 texts_of texts = map (λ t. t.items) texts
 
 abbrev pub optional_texts : List (Option (String Global)) → List (Option Text)
 optional_texts texts = map (option_map string_bytes) texts
+
+-- The value that words contain.
+abbrev pub typed_value : TypedWords → TypedText
+typed_value t = record { name = t.name.now; feature = option_map (λ f. f.now) t.feature; test = t.test }
 
 -- The value that an answer contains.
 abbrev pub answer_text : Answer → AnswerText
@@ -68,12 +78,26 @@ message_by packages sides lacking part standing = message_if (λ side. unbuilt_m
 abbrev pub message_about : List PackageText → Bool → (ℕ → Option ℕ) → (Side → ℕ → LabelName → PartState) → PartText → Option Text
 message_about packages sides lacking states part = message_by packages sides (lacking part.number) part (standing_in states part)
 
-abbrev pub answer_section : Format → List PackageText → WordsText → Widening → PartText × AnswerText → Text
-answer_section form packages words v pair = section_text form packages words v pair.0 pair.1
+-- A part, the answer about it, and the words to type.
+abbrev pub about_value : PartAnswer → PartText × AnswerText
+about_value about = (part_text about.part, answer_text about.answer)
 
--- What is said of a widening about each part, by the answer about it.
-abbrev pub answer_sections : Format → List PackageText → WordsText → Widening → List PartText → List AnswerText → List Text
-answer_sections form packages words v parts answers = map (answer_section form packages words v) (zip parts answers)
+abbrev pub ToldText : Type 0
+ToldText = (PartText × AnswerText) × Option TypedText
+
+abbrev pub told_value : Told → ToldText
+told_value told = (about_value told.about, option_map typed_value told.typed)
+
+-- The words to type are those for the part and the answer.
+abbrev pub IsTold : Bool → WorkspaceText → WordsText → WordsText → PartText × AnswerText → ToldText → Type 0
+IsTold alone w here words about told = (told.0 ≡ about) × IsTyped alone w here words about.0 about.1 told.1
+
+abbrev pub told_section : Format → List PackageText → WordsText → Widening → ToldText → Text
+told_section form packages words v told = section_text form packages words v told.0.0 told.0.1 told.1
+
+-- What is said of a widening about each part, by the answer about it and the words to type.
+abbrev pub told_sections : Format → List PackageText → WordsText → Widening → List ToldText → List Text
+told_sections form packages words v tolds = map (told_section form packages words v) tolds
 
 -- The beginnings of the texts about parts with these titles and messages.
 abbrev pub pair_head : Format → Text × Option Text → Text
@@ -84,7 +108,7 @@ heads_by form titles messages = map (pair_head form) (zip titles messages)
 
 -- The same, if the answer about each part is this one.
 abbrev pub same_sections : Format → List PackageText → WordsText → Widening → AnswerText → List PartText → List Text
-same_sections form packages words v answer parts = map (λ part. section_text form packages words v part answer) parts
+same_sections form packages words v answer parts = map (λ part. section_text form packages words v part answer None) parts
 
 abbrev pub both : Text × Text → Text
 both pair = pair.0 ++ pair.1

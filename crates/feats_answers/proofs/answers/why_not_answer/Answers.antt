@@ -8,6 +8,7 @@ use Rattle.cargo_plans.specs.plan_steps.PlanViews.{plan_text}
 use Rattle.why_nots.specs.PartView.{part_text}
 use Rattle.why_nots.specs.Parts.{PartText}
 use Rattle.why_nots.specs.Texts.{IsWhyNotText}
+use Rattle.why_nots.specs.Typed.{is_single}
 use Rattle.feats_answers.specs.AnswerViews.{texts_of}
 use Rattle.feats_answers.specs.Gathered.{gathered}
 use Rattle.feats_answers.specs.WhyNotTexts.{off_parts, on_end}
@@ -28,7 +29,7 @@ returns-clause-answer c =
       parts = map named_text named;
       are_parts = c.in_ok-named.ensures.parts;
       shown = shown;
-      are_shown = subst (λ (parts : List PartText). AllZip (IsWhyNotText form w words every) parts shown)
+      are_shown = subst (λ (parts : List PartText). AllZip (IsWhyNotText form (is_single parts) w words every) parts shown)
           (ap (map part_text) c.deref-2.ensures.value ∙ c.in_ok-off.ensures ∙ ap (λ ns. off_parts words.selection.split plan (map named_text ns)) c.deref.ensures.value) c.in_ok-texts.ensures;
       is_answer = c.in_ok-gathered.ensures
           ∙ ap (λ ns. gathered form w.packages c.args.word.now (map named_text ns) on_end (texts_of c.deref-4.result.now)) c.deref-3.ensures.value

@@ -15,5 +15,5 @@ abbrev pub invariant-loop-widening : goal.invariant-loop-widening
 invariant-loop-widening l =
     let w = workspace_text l.workspace in
     let words = words_text holds_on l.words in
-    AllZip (IsSo (λ part v text. IsSection l.form w (widened (holds_on l.every) v words) v part text) (head_text l.form w words (plan_text l.plan)) (take l.widening-index l.widening-items))
+    AllZip (IsSo (λ part v text. IsSection l.form l.base.alone w words (widened (holds_on l.every) v words) v part text) (head_text l.form w words (plan_text l.plan)) (take l.widening-index l.widening-items))
     (map part_text l.parts) (texts_of l.texts.items)

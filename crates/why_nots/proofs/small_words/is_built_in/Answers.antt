@@ -1,0 +1,13 @@
+use Rattle.std.proofs.Common.{◌∙◌, ap, ℕ}
+use Rattle.built_parts.specs.declared.state.PartState.{PartState}
+use Rattle.feature_labels.specs.Names.{LabelName}
+use Rattle.plan_rows.specs.declared.side.Side.{Side}
+use Rattle.why_nots.specs.PartView.{part_text}
+use Rattle.why_nots.specs.Standings.{standing_in}
+use Rattle.why_nots.specs.Typed.{is_built_standing}
+use Rattle.why_nots.proofs.small_words.is_built_in.Goals as goal
+
+pub returns : goal.returns
+returns c =
+    c.is_built.ensures
+    ∙ ap is_built_standing (c.standing_of.ensures ∙ ap (λ (states : Side → ℕ → LabelName → PartState). standing_in states (part_text c.args.part)) c.in_ok-built.ensures.parts)
