@@ -1,13 +1,13 @@
 -- The answer of spots that are built, and of those that are on and not built.
-use Rattle.std.proofs.Common.{◌≡◌, ◌∙◌, ℕ, List, [], ◌∷◌, ◌++◌, Bool, true, false, Option, ap, refl, sym, subst, flat_map, length, map, ◌==◌, true≢false, vec_len}
-use Rattle.std.proofs.lemmas.Bool.{false≢true}
+use Rattle.std.proofs.Common.{◌≡◌, ◌∙◌, ℕ, List, [], ◌∷◌, ◌++◌, Bool, Option, ap, refl, subst, flat_map, length, map, ◌==◌, vec_len, arith}
+use Rattle.std.proofs.lemmas.Bool.Decides.{nat_tests}
 use Rattle.std.specs.Global.{Vec}
 use Rattle.built_parts.specs.Built.{is_part_built, state_of}
 use Rattle.built_parts.specs.declared.state.PartState.{PartState}
 use Rattle.built_parts.specs.declared.state.PartState.TheVariants.{Built}
 use Rattle.cargo_plans.specs.Plans.{WordsText}
 use Rattle.cargo_plans.specs.plan_steps.Plans.{PlanText}
-use Rattle.cargo_workspaces.specs.Workspaces.{Text, PackageText, WorkspaceText}
+use Rattle.cargo_workspaces.specs.Workspaces.{Text, WorkspaceText}
 use Rattle.feature_labels.specs.Names.{LabelName}
 use Rattle.feats_words.specs.declared.command_arguments.Format.{Format}
 use Rattle.plan_names.specs.Names.{NamedText}
@@ -32,19 +32,10 @@ same_scripts f g same (s ∷ ss) =
 -- texts of which there is none
 none_of : (ts : List (Vec ℕ)) → (length ts == 0) ≡ is_none (texts_of ts)
 none_of [] = refl
-none_of (t ∷ ts) = refl
+none_of (t ∷ ts) = grind (arith, nat_tests)
 
 pub none_shown : (texts : Vec (Vec ℕ)) (b : Bool) → b ≡ (vec_len texts == 0) → b ≡ is_none (texts_of texts.items)
 none_shown texts b is = is ∙ ap (λ (n : ℕ). n == 0) texts.ok.0 ∙ none_of texts.items
-
--- a text that is empty, and one that isn't
-pub empty : (ts : List ℕ) → (length ts == 0) ≡ true → unless_empty ts ≡ []
-empty [] is = refl
-empty (b ∷ bs) is = absurd (false≢true is)
-
-pub not_empty : (ts : List ℕ) → (length ts == 0) ≡ false → unless_empty ts ≡ ts ∷ []
-not_empty [] is = absurd (true≢false is)
-not_empty (b ∷ bs) is = refl
 
 module _ (form : Format) (all : Bool) (w : WorkspaceText) (words : WordsText) (plan : PlanText) (word : Text) (parts : List NamedText) where
   abbrev answered : List Text → Bool → AnswerText
