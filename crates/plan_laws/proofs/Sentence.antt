@@ -23,11 +23,11 @@ same_sections f g same [] = refl
 same_sections f g same (v ∷ vs) = ap (λ z. z ++ flat_map f vs) (same v) ∙ ap (λ z. g v ++ z) (same_sections f g same vs)
 
 -- what is said to be off is off
-said_off : (w : WorkspaceText) (words : WordsText) (part : PartText) (packages : List PackageText) (answer : AnswerText) → said_of packages words answer ≡ said.off → IsAnswer w words part answer → IsAnswer w words part off
-said_off w words part packages (explained whys) h a = absurd (cc)
-said_off w words part packages (unbuilt message) h a = absurd (cc)
-said_off w words part packages off h a = a
-said_off w words part packages (not_planned message) h a = absurd (cc)
+said_off : (w : WorkspaceText) (here words : WordsText) (part : PartText) (packages : List PackageText) (answer : AnswerText) → said_of packages words answer ≡ said.off → IsAnswer w here words part answer → IsAnswer w here words part off
+said_off w here words part packages (explained whys typed) h a = absurd (cc)
+said_off w here words part packages (unbuilt message) h a = absurd (cc)
+said_off w here words part packages off h a = a
+said_off w here words part packages (not_planned message) h a = absurd (cc)
 
 module _ (w : WorkspaceText) (words : WordsText) (every : Text → Bool) (part : PartText) (text : Text) (t : IsWhyNotText format.Text w words every part text) where
   said_by : Widening → SaidText
@@ -37,7 +37,7 @@ module _ (w : WorkspaceText) (words : WordsText) (every : Text → Bool) (part :
   are_lines = t.is_text ∙ ap (λ z. head_text format.Text w words t.plan part ++ z) (same_sections t.section (λ v. widening_lines v (said_by v)) (λ v. (t.are_sections v).is_text) widenings)
 
   is_off : SentenceSaysOff → EndsWithLine text sentence → IsOffEverywhere w words every part.number part.label
-  is_off says ends = said_off w (widened every widening.Together words) part w.packages (t.are_sections widening.Together).answer
+  is_off says ends = said_off w words (widened every widening.Together words) part w.packages (t.are_sections widening.Together).answer
       (says (title_of w.packages part) (message_in w words t.plan part) said_by (ends.0, sym are_lines ∙ ends.1)) (t.are_sections widening.Together).is_answer
 
 pub sentence_is_true : NoChoiceTurnsOn → SentenceSaysOff → SentenceIsTrue

@@ -2,7 +2,7 @@
 use Rattle.std.proofs.Common.{◌≡◌, ◌∙◌, ap, sym, subst, refl, ℕ, Bool, true, false, ◌||◌, List, [], ◌∷◌, map, Option, None, Some}
 use Rattle.std.specs.Prelude.{IsFalse}
 use Rattle.std.specs.Global.{Vec}
-use Rattle.std.specs.List.{AllZip, list_any}
+use Rattle.std.specs.List.{AllByRecursion, AllZip, list_any}
 use Rattle.std.proofs.lemmas.Bool.{or_parts}
 use Rattle.built_parts.specs.Built.{state_of}
 use Rattle.built_parts.specs.declared.state.PartState.{PartState}
@@ -30,6 +30,7 @@ use Rattle.why_nots.specs.Parts.{PartText, spot_on}
 use Rattle.why_nots.specs.Standings as standing
 use Rattle.why_nots.specs.Standings.{StandingText, standing_in, standing_of}
 use Rattle.why_nots.specs.Texts.{IsSection}
+use Rattle.why_nots.specs.Typed.{TurnsOn, TypedText}
 use Rattle.why_nots.specs.Unbuilt.{message_if, unbuilt_message}
 use Rattle.why_nots.specs.declared.parts.OffPart.{OffPart}
 use Rattle.why_nots.specs.inner.Lists.{answer_by, answer_sections, answers_by, first_spot, has_part, message_about, same_sections, side_where}
@@ -40,18 +41,18 @@ true_or true b h = absurd (cc)
 true_or false b h = (refl, h)
 
 -- an answer by the message, and by what was found at the first spot
-pub answered : (w : WorkspaceText) (words : WordsText) (plan : PlanText) (part : PartText) (found : Option (List WhyText)) → IsPlanOf w words plan
-    → AnswersBy w words plan.on (first_spot (state_of words.selection.split plan) part) found → IsAnswer w words part (answer_by (message_in w words plan part, found))
-answered w words plan part found is_plan answer = go (standing_of words.selection.split plan part) refl found answer
+pub answered : (w : WorkspaceText) (here words : WordsText) (plan : PlanText) (part : PartText) (typed : Option TypedText) (found : Option (List WhyText)) → IsPlanOf w words plan → TurnsOn w here part typed
+    → AnswersBy w words plan.on (first_spot (state_of words.selection.split plan) part) found → IsAnswer w here words part (answer_by typed (message_in w words plan part, found))
+answered w here words plan part typed found is_plan turns answer = go (standing_of words.selection.split plan part) refl found answer
   where
     message : Side → Text
     message = message_on w words plan part
 
-    go : (st : StandingText) → standing_of words.selection.split plan part ≡ st → (f : Option (List WhyText)) → AnswersBy w words plan.on (spot_on (side_where st) part) f → IsAnswer w words part (answer_by (message_if message st, f))
+    go : (st : StandingText) → standing_of words.selection.split plan part ≡ st → (f : Option (List WhyText)) → AnswersBy w words plan.on (spot_on (side_where st) part) f → IsAnswer w here words part (answer_by typed (message_if message st, f))
     go (standing.built_on side) is None a =
         let clash : true ≡ false = sym (built_is_on words.selection.split plan part side is) ∙ a.holds in
         absurd (cc)
-    go (standing.built_on side) is (Some whys) a = record { side = side; plan = plan; is_plan = is_plan; is_built = is; is_why = a }
+    go (standing.built_on side) is (Some whys) a = record { side = side; plan = plan; is_plan = is_plan; is_built = is; is_why = a; turns_on = turns }
     go (standing.unbuilt_on side) is f a = record { side = side; plan = plan; is_plan = is_plan; is_unbuilt = is; is_message = refl }
     go standing.off is None a = record { plan = plan; is_plan = is_plan; is_off = off_is_off words.selection.split plan part is }
     go standing.off is (Some whys) a =
@@ -74,25 +75,25 @@ module _ (w : WorkspaceText) (words : WordsText) (plan : PlanText) (states : Sid
   pub messages_are : (sides : Bool) (parts : List PartText) (messages : List (Option Text)) → sides ≡ words.selection.split → messages ≡ map (message_about w.packages sides lacking states) parts → messages ≡ map (message_in w words plan) parts
   messages_are sides parts messages split are = are ∙ ap (λ b. map (message_about w.packages b lacking states) parts) split ∙ messages_in parts
 
-module _ (form : Format) (w : WorkspaceText) (words : WordsText) (v : Widening) where
+module _ (form : Format) (w : WorkspaceText) (here words : WordsText) (v : Widening) where
   -- the sections by the messages, and by what was found at the first spots
-  each_found : (plan : PlanText) (parts : List PartText) (spots : List Spot) (founds : List (Option (Vec WhyStep))) → IsPlanOf w words plan → map spot_text spots ≡ map (first_spot (state_of words.selection.split plan)) parts
-      → AllZip (λ at found. AnswersBy w words plan.on (spot_text at) (found_text found)) spots founds
-      → AllZip (IsSection form w words v) parts (answer_sections form w.packages words v parts (answers_by (map (message_in w words plan) parts) (map found_text founds)))
-  each_found plan [] [] [] is_plan same zip = tt
-  each_found plan [] [] (f ∷ fs) is_plan same zip = absurd zip
-  each_found plan [] (s ∷ ss) founds is_plan same zip = cc
-  each_found plan (p ∷ ps) [] founds is_plan same zip = cc
-  each_found plan (p ∷ ps) (s ∷ ss) [] is_plan same zip = absurd zip
-  each_found plan (p ∷ ps) (s ∷ ss) (f ∷ fs) is_plan same zip =
+  each_found : (plan : PlanText) (typed : Option TypedText) (parts : List PartText) (spots : List Spot) (founds : List (Option (Vec WhyStep))) → IsPlanOf w words plan → map spot_text spots ≡ map (first_spot (state_of words.selection.split plan)) parts
+      → AllByRecursion (λ part. TurnsOn w here part typed) parts → AllZip (λ at found. AnswersBy w words plan.on (spot_text at) (found_text found)) spots founds
+      → AllZip (IsSection form w here words v) parts (answer_sections form w.packages words v parts (answers_by typed (map (message_in w words plan) parts) (map found_text founds)))
+  each_found plan typed [] [] [] is_plan same turns zip = tt
+  each_found plan typed [] [] (f ∷ fs) is_plan same turns zip = absurd zip
+  each_found plan typed [] (s ∷ ss) founds is_plan same turns zip = cc
+  each_found plan typed (p ∷ ps) [] founds is_plan same turns zip = cc
+  each_found plan typed (p ∷ ps) (s ∷ ss) [] is_plan same turns zip = absurd zip
+  each_found plan typed (p ∷ ps) (s ∷ ss) (f ∷ fs) is_plan same turns zip =
       let here : spot_text s ≡ first_spot (state_of words.selection.split plan) p = cc in
       let more : map spot_text ss ≡ map (first_spot (state_of words.selection.split plan)) ps = cc in (
         record {
-          answer = answer_by (message_in w words plan p, found_text f);
-          is_answer = answered w words plan p (found_text f) is_plan (subst (λ (spot : SpotText). AnswersBy w words plan.on spot (found_text f)) here zip.0);
+          answer = answer_by typed (message_in w words plan p, found_text f);
+          is_answer = answered w here words plan p typed (found_text f) is_plan turns.0 (subst (λ (spot : SpotText). AnswersBy w words plan.on spot (found_text f)) here zip.0);
           is_text = refl;
         },
-        each_found plan ps ss fs is_plan more zip.1,
+        each_found plan typed ps ss fs is_plan more turns.1 zip.1,
       )
 
   by_each : (plan : PlanText) (spots : List Spot) (founds : List (Option (Vec WhyStep))) → AnswersEachBy w words plan.on spots founds → AllZip (λ at found. AnswersBy w words plan.on (spot_text at) (found_text found)) spots founds
@@ -105,17 +106,17 @@ module _ (form : Format) (w : WorkspaceText) (words : WordsText) (v : Widening) 
       go (s ∷ ss) [] zip = absurd zip
       go (s ∷ ss) (f ∷ fs) zip = (record { chosen = answers.chosen; are_accepted = answers.are_accepted; holds = zip.0 }, go ss fs zip.1)
 
-  pub explained_by : (plan : PlanText) (states : Side → ℕ → LabelName → PartState) (parts : List PartText) (messages : List (Option Text)) (spots taken : List Spot) (founds : List (Option (Vec WhyStep))) (answers : List AnswerText) (sections : List Text)
-      → IsPlanOf w words plan → states ≡ state_of words.selection.split plan → messages ≡ map (message_in w words plan) parts → map spot_text spots ≡ map (first_spot states) parts
-      → taken ≡ spots → AnswersEachBy w words plan.on taken founds → answers ≡ answers_by messages (map found_text founds) → sections ≡ answer_sections form w.packages words v parts answers
-      → AllZip (IsSection form w words v) parts sections
-  explained_by plan states parts messages spots taken founds answers sections is_plan states_are are same is_taken found by shown =
-      subst (AllZip (IsSection form w words v) parts) (sym (shown ∙ ap (λ z. answer_sections form w.packages words v parts z) (by ∙ ap (λ ms. answers_by ms (map found_text founds)) are)))
-      (each_found plan parts spots founds is_plan (same ∙ ap (λ (s : Side → ℕ → LabelName → PartState). map (first_spot s) parts) states_are)
+  pub explained_by : (plan : PlanText) (typed : Option TypedText) (states : Side → ℕ → LabelName → PartState) (parts : List PartText) (messages : List (Option Text)) (spots taken : List Spot) (founds : List (Option (Vec WhyStep))) (answers : List AnswerText) (sections : List Text)
+      → IsPlanOf w words plan → states ≡ state_of words.selection.split plan → messages ≡ map (message_in w words plan) parts → AllByRecursion (λ part. TurnsOn w here part typed) parts → map spot_text spots ≡ map (first_spot states) parts
+      → taken ≡ spots → AnswersEachBy w words plan.on taken founds → answers ≡ answers_by typed messages (map found_text founds) → sections ≡ answer_sections form w.packages words v parts answers
+      → AllZip (IsSection form w here words v) parts sections
+  explained_by plan typed states parts messages spots taken founds answers sections is_plan states_are are turns same is_taken found by shown =
+      subst (AllZip (IsSection form w here words v) parts) (sym (shown ∙ ap (λ z. answer_sections form w.packages words v parts z) (by ∙ ap (λ ms. answers_by typed ms (map found_text founds)) are)))
+      (each_found plan typed parts spots founds is_plan (same ∙ ap (λ (s : Side → ℕ → LabelName → PartState). map (first_spot s) parts) states_are) turns
       (by_each plan spots founds (subst (λ ss. AnswersEachBy w words plan.on ss founds) is_taken found)))
 
   each_off : (plan : PlanText) (parts : List OffPart) → IsPlanOf w words plan → list_any (λ part. has_part plan.on (part_text part)) parts ≡ false
-      → AllZip (IsSection form w words v) (map part_text parts) (same_sections form w.packages words v off (map part_text parts))
+      → AllZip (IsSection form w here words v) (map part_text parts) (same_sections form w.packages words v off (map part_text parts))
   each_off plan [] is_plan none = tt
   each_off plan (p ∷ ps) is_plan none =
       let parts_off = or_parts _ _ none in (
@@ -128,11 +129,11 @@ module _ (form : Format) (w : WorkspaceText) (words : WordsText) (v : Widening) 
       )
 
   pub all_off : (plan : PlanText) (parts : List OffPart) (one_is : Bool) (sections : List Text) → IsPlanOf w words plan → one_is ≡ list_any (λ part. has_part plan.on (part_text part)) parts → one_is ≡ false
-      → sections ≡ same_sections form w.packages words v off (map part_text parts) → AllZip (IsSection form w words v) (map part_text parts) sections
-  all_off plan parts one_is sections is_plan says none shown = subst (AllZip (IsSection form w words v) (map part_text parts)) (sym shown) (each_off plan parts is_plan (sym says ∙ none))
+      → sections ≡ same_sections form w.packages words v off (map part_text parts) → AllZip (IsSection form w here words v) (map part_text parts) sections
+  all_off plan parts one_is sections is_plan says none shown = subst (AllZip (IsSection form w here words v) (map part_text parts)) (sym shown) (each_off plan parts is_plan (sym says ∙ none))
 
   each_refused : (fault : PlanFault) (message : Text) (parts : List PartText) → IsRefusal w words fault → IsFalse (is_memory fault) → message ≡ plan_message w.packages fault
-      → AllZip (IsSection form w words v) parts (same_sections form w.packages words v (not_planned message) parts)
+      → AllZip (IsSection form w here words v) parts (same_sections form w.packages words v (not_planned message) parts)
   each_refused fault message [] refusal claimed is = tt
   each_refused fault message (p ∷ ps) refusal claimed is = (
     record {
@@ -144,6 +145,6 @@ module _ (form : Format) (w : WorkspaceText) (words : WordsText) (v : Widening) 
   )
 
   pub unplanned : (fault : PlanFault) (parts : List PartText) (sections : List Text) → IsRefusal w words fault → IsFalse (is_memory fault)
-      → sections ≡ same_sections form w.packages words v (not_planned (plan_message w.packages fault)) parts → AllZip (IsSection form w words v) parts sections
+      → sections ≡ same_sections form w.packages words v (not_planned (plan_message w.packages fault)) parts → AllZip (IsSection form w here words v) parts sections
   unplanned fault parts sections refusal claimed shown =
-      subst (AllZip (IsSection form w words v) parts) (sym shown) (each_refused fault (plan_message w.packages fault) parts refusal claimed refl)
+      subst (AllZip (IsSection form w here words v) parts) (sym shown) (each_refused fault (plan_message w.packages fault) parts refusal claimed refl)

@@ -14,23 +14,26 @@ use Rattle.plan_whys.specs.Whys.{AnswersBy}
 use Rattle.plan_widenings.specs.Findings.{IsOff, is_memory}
 use Rattle.why_nots.specs.Parts.{PartText, spot_on}
 use Rattle.why_nots.specs.Standings.{built_on, standing_of, unbuilt_on}
+use Rattle.why_nots.specs.Typed.{TurnsOn, TypedText}
 use Rattle.why_nots.specs.Unbuilt.{message_if, unbuilt_message}
 
--- The steps to the part, if it is built; the message about it, if it is on and isn't built; that it is off; or the message why there is no
+-- The steps to the part, if it is built, and perhaps words that turn it on; the message about it, if it is on and isn't built; that it is off; or the message why there is no
 -- plan.
 pub data AnswerText : Type 0 where
-  explained : List WhyText → AnswerText
+  explained : List WhyText → Option TypedText → AnswerText
   unbuilt : Text → AnswerText
   off : AnswerText
   not_planned : Text → AnswerText
 
--- Why the part is on in a plan of the words, on the first side on which it is built.
-pub record IsExplained (w : WorkspaceText) (words : WordsText) (part : PartText) (whys : List WhyText) : Type 0 where
+-- Why the part is on in a plan of the words, on the first side on which it is built; and words that turn it on. The platforms of `here` are
+-- those of the command line.
+pub record IsExplained (w : WorkspaceText) (here words : WordsText) (part : PartText) (whys : List WhyText) (typed : Option TypedText) : Type 0 where
   pub side : Side
   pub plan : PlanText
   pub is_plan : IsPlanOf w words plan
   pub is_built : standing_of words.selection.split plan part ≡ built_on side
   pub is_why : AnswersBy w words plan.on (spot_on side part) (Some whys)
+  pub turns_on : TurnsOn w here part typed
 
 -- The first package that lacks a build script for package `q`, in a plan of the words.
 abbrev pub lacking_in : WorkspaceText → WordsText → PlanText → ℕ → Option ℕ
@@ -58,9 +61,9 @@ pub record IsNotPlanned (w : WorkspaceText) (words : WordsText) (message : Text)
   pub is_claimed : IsFalse (is_memory fault)
   pub is_message : message ≡ plan_message w.packages fault
 
--- THE ANSWER about the part, by the words.
-abbrev pub IsAnswer : WorkspaceText → WordsText → PartText → AnswerText → Type 0
-IsAnswer w words part (explained whys) = IsExplained w words part whys
-IsAnswer w words part (unbuilt message) = IsUnbuilt w words part message
-IsAnswer w words part off = IsOff w words part.number part.label
-IsAnswer w words part (not_planned message) = IsNotPlanned w words message
+-- THE ANSWER about the part, by the words. Those of the command line are `here`.
+abbrev pub IsAnswer : WorkspaceText → WordsText → WordsText → PartText → AnswerText → Type 0
+IsAnswer w here words part (explained whys typed) = IsExplained w here words part whys typed
+IsAnswer w here words part (unbuilt message) = IsUnbuilt w words part message
+IsAnswer w here words part off = IsOff w words part.number part.label
+IsAnswer w here words part (not_planned message) = IsNotPlanned w words message

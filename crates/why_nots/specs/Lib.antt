@@ -6,5 +6,6 @@ pub mod PartView
 pub mod Standings
 pub mod StandingView
 pub mod Texts
+pub mod Typed
 pub mod Unbuilt
 pub mod inner

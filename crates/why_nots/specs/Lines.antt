@@ -1,5 +1,5 @@
 -- An answer as text.
-use Rattle.std.specs.Prelude.{List}
+use Rattle.std.specs.Prelude.{List, ◌++◌}
 use Rattle.cargo_workspaces.specs.Workspaces.{PackageText}
 use Rattle.cargo_plans.specs.Plans.{WordsText}
 use Rattle.widening_lines.specs.Lines.{SaidText}
@@ -7,6 +7,7 @@ use Rattle.widening_lines.specs.Lines as said
 use Rattle.why_lines.specs.Lines.{why_lines}
 use Rattle.why_lines.specs.Settings.{SettingsText}
 use Rattle.why_nots.specs.Answers.{AnswerText, explained, not_planned, off, unbuilt}
+use Rattle.why_nots.specs.Typed.{typed_line}
 
 -- The settings of the lines that explain a plan of the words.
 abbrev pub settings_of : WordsText → SettingsText
@@ -14,7 +15,7 @@ settings_of words = record { split = words.selection.split; test = words.test; h
 
 -- What is said by an answer.
 abbrev pub said_of : List PackageText → WordsText → AnswerText → SaidText
-said_of packages words (explained whys) = said.on_by (why_lines packages (settings_of words) whys)
+said_of packages words (explained whys typed) = said.on_by (why_lines packages (settings_of words) whys ++ typed_line typed)
 said_of packages words (unbuilt message) = said.unbuilt message
 said_of packages words off = said.off
 said_of packages words (not_planned message) = said.not_planned message

@@ -1,15 +1,17 @@
 -- An answer as a JSON object.
-use Rattle.std.specs.Prelude.{List, [], ◌∷◌, ◌++◌, true, false, codes}
+use Rattle.std.specs.Prelude.{List, [], ◌∷◌, ◌++◌, true, false, Option, codes, option_map}
 use Rattle.json.specs.Token.{Token, begin_array, end_array, key, null}
 use Rattle.cargo_workspaces.specs.Workspaces.{Text, PackageText}
 use Rattle.cargo_plans.specs.Plans.{WordsText}
 use Rattle.line_parts.specs.Members.{flag_member, optional_member, text_member}
 use Rattle.plan_widenings.specs.declared.widening.Widening.{Widening}
 use Rattle.plan_widenings.specs.declared.widening.Widening.TheVariants as widening
+use Rattle.plan_whys.specs.Steps.{WhyText}
 use Rattle.why_lines.specs.Objects.{dependency_name, feature_name, id_at, step_objects}
 use Rattle.why_nots.specs.Answers.{AnswerText, explained, not_planned, off, unbuilt}
 use Rattle.why_nots.specs.Lines.{settings_of}
 use Rattle.why_nots.specs.Parts.{PartText}
+use Rattle.why_nots.specs.Typed.{TypedText, typed_text}
 
 abbrev pub widening_word : Widening → Text
 widening_word widening.AllFeatures = codes "all-features"
@@ -33,10 +35,15 @@ unbuilt_tokens message = flag_member (codes "on") false ++ text_member (codes "m
 abbrev pub refused_tokens : Text → List Token
 refused_tokens message = key (codes "on") ∷ null ∷ text_member (codes "message") message
 
+abbrev pub on_tokens : List PackageText → WordsText → List WhyText → List Token
+on_tokens packages words whys = flag_member (codes "on") true ++ key (codes "steps") ∷ array_tokens (step_objects packages (settings_of words) whys)
+
+abbrev pub words_tokens : Option TypedText → List Token
+words_tokens typed = optional_member (codes "words") (option_map typed_text typed)
+
 -- The members of an answer by these words.
 abbrev pub answer_tokens : List PackageText → WordsText → AnswerText → List Token
-answer_tokens packages words (explained whys) =
-    flag_member (codes "on") true ++ key (codes "steps") ∷ array_tokens (step_objects packages (settings_of words) whys)
+answer_tokens packages words (explained whys typed) = on_tokens packages words whys ++ words_tokens typed
 answer_tokens packages words (unbuilt message) = unbuilt_tokens message
 answer_tokens packages words off = flag_member (codes "on") false
 answer_tokens packages words (not_planned message) = refused_tokens message

@@ -29,15 +29,15 @@ abbrev pub section_text : Format → List PackageText → WordsText → Widening
 section_text format.Text packages words v part answer = widening_lines v (said_of packages words answer)
 section_text format.Json packages words v part answer = object_line (begin_object ∷ (head_tokens packages part v ++ answer_tokens packages words answer))
 
--- What is said of a widening, by which the words are these.
-pub record IsSection (form : Format) (w : WorkspaceText) (words : WordsText) (v : Widening) (part : PartText) (text : Text) : Type 0 where
+-- What is said of a widening, by which the words are these. Those of the command line are `here`.
+pub record IsSection (form : Format) (w : WorkspaceText) (here words : WordsText) (v : Widening) (part : PartText) (text : Text) : Type 0 where
   pub answer : AnswerText
-  pub is_answer : IsAnswer w words part answer
+  pub is_answer : IsAnswer w here words part answer
   pub is_text : text ≡ section_text form w.packages words v part answer
 
 -- What is said of it for each widening. `every` is which platform specs hold on every platform.
 abbrev pub AreSections : Format → WorkspaceText → WordsText → (Text → Bool) → PartText → (Widening → Text) → Type 0
-AreSections form w words every part section = (v : Widening) → IsSection form w (widened every v words) v part (section v)
+AreSections form w words every part section = (v : Widening) → IsSection form w words (widened every v words) v part (section v)
 
 -- THE TEXT about a part that isn't built in the plan of the words: what is said of it for each widening.
 pub record IsWhyNotText (form : Format) (w : WorkspaceText) (words : WordsText) (every : Text → Bool) (part : PartText) (text : Text) : Type 0 where

@@ -3,14 +3,15 @@ ghost use Rattle.std.specs.Prelude.{◌≡◌, IfOk, map, option_map, string_byt
 ghost use Rattle.plan_whys.specs.StepViews.{found_text};
 ghost use Rattle.why_nots.specs.inner.Lists as spec;
 
+use crate::typed_words::TypedWords;
 use plan_whys::WhyStep;
 use std::alloc::{AllocError, Global};
 
 /// The answer about a part in the plan of some words.
 #[derive(Clone, Copy)]
 pub(crate) enum Answer<'a, 'p> {
-    /// The part is built, and on by these steps.
-    Explained(&'a [WhyStep<'p>]),
+    /// The part is built, and on by these steps. The words turn it on too.
+    Explained(&'a [WhyStep<'p>], Option<TypedWords<'p>>),
     /// The part is on and isn't built, with the message about that.
     Unbuilt(&'a str),
     Off,
@@ -18,31 +19,33 @@ pub(crate) enum Answer<'a, 'p> {
     NotPlanned(&'a str),
 }
 
-/// Returns `Unbuilt` if there is a `message`, else `Explained` with the steps in `found`, or `Off` if `found` is `None`.
+/// Returns `Unbuilt` if there is a `message`, else `Explained` with `typed` and the steps in `found`, or `Off` if `found` is `None`.
 fn answer_by<'a, 'p>(
+    typed: Option<TypedWords<'p>>,
     message: &'a Option<String>,
     found: &'a Option<Vec<WhyStep<'p>>>,
 ) -> Answer<'a, 'p>
-    ensures { spec.answer_text result ≡ spec.answer_by (option_map string_bytes message.now, found_text found.now) }
+    ensures { spec.answer_text result ≡ spec.answer_by (option_map spec.typed_value typed.entry) (option_map string_bytes message.now, found_text found.now) }
 {
     match (message, found) {
         (Some(message), _) => Answer::Unbuilt(message.as_str()),
-        (None, Some(steps)) => Answer::Explained(steps),
+        (None, Some(steps)) => Answer::Explained(steps, typed),
         (None, None) => Answer::Off,
     }
 }
 
-/// Returns the answer by each of `messages` and the steps at the same place in `founds`.
+/// Returns the answer by each of `messages` and the steps at the same place in `founds`, with the words `typed`.
 pub(crate) fn answers_by<'a, 'p>(
     alloc: Global,
+    typed: Option<TypedWords<'p>>,
     messages: &'a [Option<String>],
     founds: &'a [Option<Vec<WhyStep<'p>>>],
 ) -> Result<Vec<Answer<'a, 'p>>, AllocError>
-    ensures { IfOk result (λ answers. map spec.answer_text answers.items ≡ spec.answers_by (spec.optional_texts messages.now) (map found_text founds.now)) }
+    ensures { IfOk result (λ answers. map spec.answer_text answers.items ≡ spec.answers_by (option_map spec.typed_value typed.entry) (spec.optional_texts messages.now) (map found_text founds.now)) }
 {
     let mut answers = Vec::with_capacity(alloc, messages.len())?;
     for (message, found) in messages.iter().zip(founds) {
-        answers.push(answer_by(message, found))?;
+        answers.push(answer_by(typed, message, found))?;
     }
     Ok(answers)
 }

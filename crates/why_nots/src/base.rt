@@ -40,15 +40,14 @@ pub(crate) fn sections_by(
     parts: &[OffPart<'_>],
 ) -> Result<Vec<Vec<u8>>, AllocError>
     requires { IsPlanOf (workspace_text base.workspace.now) (words_text holds_on base.words.now) (plan_text base.plan.now) }
-    ensures { IfOk result (λ sections. AllZip (IsSection form (workspace_text base.entry.workspace.now) (spec.widened (holds_on base.entry.every.now) widening (words_text holds_on base.entry.words.now)) widening) (map part_text parts.now) (texts_of sections.items)) }
+    ensures { IfOk result (λ sections. AllZip (IsSection form (workspace_text base.entry.workspace.now) (words_text holds_on base.entry.words.now) (spec.widened (holds_on base.entry.every.now) widening (words_text holds_on base.entry.words.now)) widening) (map part_text parts.now) (texts_of sections.items)) }
 {
-    let workspace = base.workspace;
     if adds(base.words, widening) {
         let wider = widened(base.words, widening, base.every);
-        widened_sections(alloc, form, workspace, &wider, widening, parts)
+        widened_sections(alloc, form, base, &wider, widening, parts)
     } else {
         planned_sections(
-            alloc, form, workspace, base.words, widening, parts, base.plan,
+            alloc, form, base, base.words, widening, parts, base.plan,
         )
     }
 }

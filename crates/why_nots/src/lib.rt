@@ -11,9 +11,11 @@ mod objects;
 mod parts;
 mod sections;
 mod settings;
+mod small_words;
 mod spots;
 mod standings;
 mod texts;
+mod typed_words;
 mod unbuilt;
 mod widened_sections;
 

@@ -1,5 +1,5 @@
 //! Answers as JSON objects.
-ghost use Rattle.std.specs.Prelude.{◌≡◌, ◌++◌, ◌∷◌, IfOk, OnOk, map};
+ghost use Rattle.std.specs.Prelude.{◌≡◌, ◌++◌, ◌∷◌, IfOk, OnOk, map, option_map, string_bytes};
 ghost use Rattle.json.specs.Token.{begin_object};
 ghost use Rattle.cargo_plans.specs.WordsView.{words_text};
 ghost use Rattle.cargo_workspaces.specs.WorkspaceView.{workspace_text};
@@ -10,17 +10,19 @@ ghost use Rattle.why_lines.specs.Objects.{step_objects};
 ghost use Rattle.why_nots.specs.Answers.{explained};
 ghost use Rattle.why_nots.specs.Lines.{settings_of as settings_by};
 ghost use Rattle.why_nots.specs.Objects as spec;
+ghost use Rattle.why_nots.specs.Typed.{typed_text};
 ghost use Rattle.why_nots.specs.PartView.{part_text};
-ghost use Rattle.why_nots.specs.inner.Lists.{answer_text};
+ghost use Rattle.why_nots.specs.inner.Lists.{answer_text, typed_value};
 
 use crate::answer::Answer;
 use crate::labels::write_head;
 use crate::parts::OffPart;
 use crate::settings::settings_of;
+use crate::typed_words::{TypedWords, push_typed};
 use cargo_plans::PlanWords;
 use cargo_workspaces::Workspace;
 use json::Writer;
-use line_parts::{begin_line, end_line, write_flag, write_member};
+use line_parts::{begin_line, end_line, write_flag, write_member, write_optional};
 use plan_platforms::HeldSpecs;
 use plan_whys::WhyStep;
 use plan_widenings::Widening;
@@ -40,21 +42,62 @@ fn write_objects(
     write_steps(alloc, writer, workspace, &settings_of(words), steps)
 }
 
-/// Writes the answer that a part is on, with the steps that explain why.
-fn write_explained(
+/// Writes that a part is on, with the steps that explain why.
+fn write_steps_on(
     alloc: Global,
     writer: &mut Writer,
     workspace: &Workspace<'_>,
     words: &PlanWords<'_, '_, HeldSpecs<'_>>,
     steps: &[WhyStep<'_>],
 ) -> Result<(), AllocError>
-    ensures { OnOk result (Appends writer.old writer.new (spec.answer_tokens (workspace_text workspace.now).packages (words_text holds_on words.now) (explained (map why_text steps.now)))) }
+    ensures { OnOk result (Appends writer.old writer.new (spec.on_tokens (workspace_text workspace.now).packages (words_text holds_on words.now) (map why_text steps.now))) }
 {
     write_flag(writer, "on", true)?;
     writer.key("steps")?;
     writer.begin_array()?;
     write_objects(alloc, writer, workspace, words, steps)?;
     writer.end_array()
+}
+
+/// Returns `typed` as it is typed.
+fn typed_text_of(alloc: Global, typed: TypedWords<'_>) -> Result<String, AllocError>
+    ensures { IfOk result (λ text. string_bytes text ≡ typed_text (typed_value typed.entry)) }
+{
+    let mut text = String::new(alloc);
+    push_typed(&mut text, typed)?;
+    Ok(text)
+}
+
+/// Writes the member with the words `typed`.
+fn write_typed(
+    alloc: Global,
+    writer: &mut Writer,
+    typed: Option<TypedWords<'_>>,
+) -> Result<(), AllocError>
+    ensures { OnOk result (Appends writer.old writer.new (spec.words_tokens (option_map typed_value typed.entry))) }
+{
+    match typed {
+        None => write_optional(writer, "words", None),
+        Some(typed) => {
+            let text = typed_text_of(alloc, typed)?;
+            write_member(writer, "words", text.as_str())
+        }
+    }
+}
+
+/// Writes the answer that a part is on, with the steps that explain why, and the words `typed`, which turn it on too.
+fn write_explained(
+    alloc: Global,
+    writer: &mut Writer,
+    workspace: &Workspace<'_>,
+    words: &PlanWords<'_, '_, HeldSpecs<'_>>,
+    steps: &[WhyStep<'_>],
+    typed: Option<TypedWords<'_>>,
+) -> Result<(), AllocError>
+    ensures { OnOk result (Appends writer.old writer.new (spec.answer_tokens (workspace_text workspace.now).packages (words_text holds_on words.now) (explained (map why_text steps.now) (option_map typed_value typed.entry)))) }
+{
+    write_steps_on(alloc, writer, workspace, words, steps)?;
+    write_typed(alloc, writer, typed)
 }
 
 /// Writes the answer that a part is on and isn't built; `message` says so.
@@ -85,7 +128,9 @@ fn write_answer(
     ensures { OnOk result (Appends writer.old writer.new (spec.answer_tokens (workspace_text workspace.now).packages (words_text holds_on words.now) (answer_text answer.entry))) }
 {
     match answer {
-        Answer::Explained(steps) => write_explained(alloc, writer, workspace, words, steps),
+        Answer::Explained(steps, typed) => {
+            write_explained(alloc, writer, workspace, words, steps, typed)
+        }
         Answer::Unbuilt(message) => write_unbuilt(writer, message),
         Answer::Off => write_flag(writer, "on", false),
         Answer::NotPlanned(message) => write_refused(writer, message),

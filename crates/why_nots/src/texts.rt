@@ -94,7 +94,7 @@ fn with_sections(
 ) -> Result<Vec<Vec<u8>>, AllocError>
     requires { IsPlanOf (workspace_text base.workspace.now) (words_text holds_on base.words.now) (plan_text base.plan.now) }
     ensures { IfOk result (λ longer. (sections : List Text)
-        × AllZip (spec.IsSection form (workspace_text base.entry.workspace.now) (widened (holds_on base.entry.every.now) widening (words_text holds_on base.entry.words.now)) widening) (map part_text parts.now) sections
+        × AllZip (spec.IsSection form (workspace_text base.entry.workspace.now) (words_text holds_on base.entry.words.now) (widened (holds_on base.entry.every.now) widening (words_text holds_on base.entry.words.now)) widening) (map part_text parts.now) sections
         × (texts_of longer.items ≡ joined_texts (texts_of texts.now) sections)) }
 {
     let sections = sections_by(alloc, form, base, widening, parts)?;

@@ -15,10 +15,12 @@ ghost use Rattle.why_nots.specs.inner.Lists as spec;
 ghost use Rattle.why_nots.specs.inner.Lists.{answer_text, texts_of};
 
 use crate::answer::{Answer, answers_by};
+use crate::base::Base;
 use crate::builds::{builds_of, messages_about};
 use crate::messages::message_of;
 use crate::parts::OffPart;
 use crate::sections::section_of;
+use crate::small_words::single_words;
 use crate::spots::{first_spots, is_one_on};
 use cargo_plans::{Plan, PlanFault, PlanWords, plan};
 use cargo_workspaces::Workspace;
@@ -71,20 +73,22 @@ fn same_sections(
 fn explained_sections(
     alloc: Global,
     form: Format,
-    workspace: &Workspace<'_>,
+    base: Base<'_, '_, '_, '_, '_, '_>,
     words: &PlanWords<'_, '_, HeldSpecs<'_>>,
     widening: Widening,
     parts: &[OffPart<'_>],
     plan: &Plan<'_>,
 ) -> Result<Vec<Vec<u8>>, AllocError>
-    requires { IsPlanOf (workspace_text workspace.now) (words_text holds_on words.now) (plan_text plan.now) }
-    ensures { IfOk result (λ sections. AllZip (IsSection form (workspace_text workspace.now) (words_text holds_on words.now) widening) (map part_text parts.now) (texts_of sections.items)) }
+    requires { IsPlanOf (workspace_text base.workspace.now) (words_text holds_on words.now) (plan_text plan.now) }
+    ensures { IfOk result (λ sections. AllZip (IsSection form (workspace_text base.entry.workspace.now) (words_text holds_on base.entry.words.now) (words_text holds_on words.now) widening) (map part_text parts.now) (texts_of sections.items)) }
 {
+    let workspace = base.workspace;
     let builds = builds_of(alloc, workspace, words, plan)?;
     let messages = messages_about(alloc, workspace, &builds, parts)?;
     let spots = first_spots(alloc, &builds, parts)?;
     let founds = why_each(alloc, workspace, words, plan, &spots)?;
-    let answers = answers_by(alloc, &messages, &founds)?;
+    let typed = single_words(alloc, base, widening, parts, &founds)?;
+    let answers = answers_by(alloc, typed, &messages, &founds)?;
     answer_sections(alloc, form, workspace, words, widening, parts, &answers)
 }
 
@@ -93,20 +97,20 @@ fn explained_sections(
 pub(crate) fn planned_sections(
     alloc: Global,
     form: Format,
-    workspace: &Workspace<'_>,
+    base: Base<'_, '_, '_, '_, '_, '_>,
     words: &PlanWords<'_, '_, HeldSpecs<'_>>,
     widening: Widening,
     parts: &[OffPart<'_>],
     plan: &Plan<'_>,
 ) -> Result<Vec<Vec<u8>>, AllocError>
-    requires { IsPlanOf (workspace_text workspace.now) (words_text holds_on words.now) (plan_text plan.now) }
-    ensures { IfOk result (λ sections. AllZip (IsSection form (workspace_text workspace.now) (words_text holds_on words.now) widening) (map part_text parts.now) (texts_of sections.items)) }
+    requires { IsPlanOf (workspace_text base.workspace.now) (words_text holds_on words.now) (plan_text plan.now) }
+    ensures { IfOk result (λ sections. AllZip (IsSection form (workspace_text base.entry.workspace.now) (words_text holds_on base.entry.words.now) (words_text holds_on words.now) widening) (map part_text parts.now) (texts_of sections.items)) }
 {
     if is_one_on(plan, parts) {
-        explained_sections(alloc, form, workspace, words, widening, parts, plan)
+        explained_sections(alloc, form, base, words, widening, parts, plan)
     } else {
         let answer = Answer::Off;
-        same_sections(alloc, form, workspace, words, widening, parts, answer)
+        same_sections(alloc, form, base.workspace, words, widening, parts, answer)
     }
 }
 
@@ -124,27 +128,27 @@ fn unplanned_sections<'p>(
 {
     let message = message_of(alloc, workspace, fault)?;
     let answer = Answer::NotPlanned(message.as_str());
-    same_sections(alloc, form, workspace, words, widening, parts, answer)
+    same_sections(alloc, form, base.workspace, words, widening, parts, answer)
 }
 
 /// Returns the sections about `widening`, whose words are `words`, and each of `parts`. It makes one plan.
 pub(crate) fn widened_sections(
     alloc: Global,
     form: Format,
-    workspace: &Workspace<'_>,
+    base: Base<'_, '_, '_, '_, '_, '_>,
     words: &PlanWords<'_, '_, HeldSpecs<'_>>,
     widening: Widening,
     parts: &[OffPart<'_>],
 ) -> Result<Vec<Vec<u8>>, AllocError>
-    ensures { IfOk result (λ sections. AllZip (IsSection form (workspace_text workspace.now) (words_text holds_on words.now) widening) (map part_text parts.now) (texts_of sections.items)) }
+    ensures { IfOk result (λ sections. AllZip (IsSection form (workspace_text base.entry.workspace.now) (words_text holds_on base.entry.words.now) (words_text holds_on words.now) widening) (map part_text parts.now) (texts_of sections.items)) }
 {
-    match plan(alloc, workspace, words) {
+    match plan(alloc, base.workspace, words) {
         Ok(plan) => {
-            let sections = planned_sections(alloc, form, workspace, words, widening, parts, &plan);
+            let sections = planned_sections(alloc, form, base, words, widening, parts, &plan);
             drop(plan);
             sections
         }
         Err(PlanFault::Memory) => Err(AllocError),
-        Err(fault) => unplanned_sections(alloc, form, workspace, words, widening, parts, fault),
+        Err(fault) => unplanned_sections(alloc, form, base, words, widening, parts, fault),
     }
 }

@@ -1,11 +1,12 @@
 use Rattle.std.proofs.Common.{◌≡◌, ◌++◌, map}
+use Rattle.std.specs.Prelude.{option_map}
 use Rattle.std.specs.Iterator.Adapters.{zip_first, zip_second}
 use Rattle.std.specs.Slice.Iter.{iter_rest}
 use Rattle.plan_whys.specs.StepViews.{found_text}
-use Rattle.why_nots.specs.inner.Lists.{answer_text, answers_by, optional_texts}
+use Rattle.why_nots.specs.inner.Lists.{answer_text, answers_by, optional_texts, typed_value}
 use Rattle.why_nots.proofs.answer.answers_by.Given as goal
 
 abbrev pub invariant-loop-message : goal.invariant-loop-message
 invariant-loop-message l =
-    answers_by (optional_texts l.messages) (map found_text l.founds)
-    ≡ map answer_text l.answers.items ++ answers_by (optional_texts (iter_rest (zip_first l.message-iterator))) (map found_text (iter_rest (zip_second l.message-iterator)))
+    answers_by (option_map typed_value l.typed) (optional_texts l.messages) (map found_text l.founds)
+    ≡ map answer_text l.answers.items ++ answers_by (option_map typed_value l.typed) (optional_texts (iter_rest (zip_first l.message-iterator))) (map found_text (iter_rest (zip_second l.message-iterator)))

@@ -1,11 +1,5 @@
-use Rattle.std.proofs.Common.{[], ◌∷◌}
-use Rattle.std.specs.Prelude.{codes}
-use Rattle.json.specs.Token.{begin_array, key}
-use Rattle.why_nots.proofs.Tokens.{appended, on_ok, wrote}
+use Rattle.why_nots.proofs.Tokens.{appended, on_ok}
 use Rattle.why_nots.proofs.objects.write_explained.Goals as goal
 
 pub returns : goal.returns
-returns c = on_ok c.end_array.result (wrote _ _ _ _ c.end_array.ensures) (λ last.
-    appended _ _ _ _ _ c.in_ok-write_flag.ensures
-    (appended _ _ _ (key (codes "steps") ∷ []) _ (wrote _ _ _ _ c.in_ok-key.ensures)
-    (appended _ _ _ (begin_array ∷ []) _ (wrote _ _ _ _ c.in_ok-begin_array.ensures) (appended _ _ _ _ _ c.in_ok-write_objects.ensures last))))
+returns c = on_ok c.write_typed.result c.write_typed.ensures (λ last. appended _ _ _ _ _ c.in_ok-write_steps_on.ensures last)

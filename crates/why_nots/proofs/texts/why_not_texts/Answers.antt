@@ -22,7 +22,7 @@ use Rattle.why_nots.proofs.Gathered.{AllAreSaid}
 use Rattle.why_nots.proofs.texts.why_not_texts.Goals as goal
 
 text_done : (form : Format) (w : WorkspaceText) (words : WordsText) (every : Text → Bool) (plan : PlanText) (is_plan : IsPlanOf w words plan) (parts : List PartText) (texts : List Text)
-    → AllZip (λ part text. AllAreSaid (λ v t. IsSection form w (widened every v words) v part t) (λ v s. s) (head_text form w words plan part) text) parts texts → AllZip (IsWhyNotText form w words every) parts texts
+    → AllZip (λ part text. AllAreSaid (λ v t. IsSection form w words (widened every v words) v part t) (λ v s. s) (head_text form w words plan part) text) parts texts → AllZip (IsWhyNotText form w words every) parts texts
 text_done form w words every plan is_plan [] [] so = tt
 text_done form w words every plan is_plan [] (t ∷ ts) so = absurd so
 text_done form w words every plan is_plan (p ∷ ps) [] so = absurd so
@@ -33,7 +33,7 @@ loop-widening-init c =
     let w = workspace_text c.args.workspace.now in
     let words = words_text holds_on c.args.words.now in
     let every = holds_on c.args.every.now in
-    begun (λ part v text. IsSection c.args.form w (widened every v words) v part text) (head_text c.args.form w words (plan_text c.args.plan.now)) (map part_text c.args.parts.now) (texts_of c.in_ok-texts.texts.items) c.in_ok-texts.ensures
+    begun (λ part v text. IsSection c.args.form w words (widened every v words) v part text) (head_text c.args.form w words (plan_text c.args.plan.now)) (map part_text c.args.parts.now) (texts_of c.in_ok-texts.texts.items) c.in_ok-texts.ensures
 
 pub loop-widening-preserved : goal.loop-widening-preserved
 loop-widening-preserved c =
@@ -45,7 +45,7 @@ loop-widening-preserved c =
     let i = c.loop-widening.widening-index in
     let within : i < length vs = subst (λ z. i < length z) (sym c.all-all.ensures) c.loop-widening-test.true in
     let given = c.in_ok-texts-2.ensures in
-    each_step (λ part v text. IsSection c.args.form w (widened every v words) v part text) (head_text c.args.form w words (plan_text c.args.plan.now)) vs i _ parts (texts_of c.loop-widening.texts.items) given.0 (texts_of c.in_ok-texts-2.texts.items) within c.loop-widening.invariant
+    each_step (λ part v text. IsSection c.args.form w words (widened every v words) v part text) (head_text c.args.form w words (plan_text c.args.plan.now)) vs i _ parts (texts_of c.loop-widening.texts.items) given.0 (texts_of c.in_ok-texts-2.texts.items) within c.loop-widening.invariant
     given.1
     (given.2 ∙ ap (λ ts. joined (texts_of ts) given.0) c.deref.ensures.value)
 
@@ -57,7 +57,7 @@ returns c =
     let parts = map part_text c.args.parts.now in
     let vs = c.all-all.result in
     let i = c.loop-widening.widening-index in
-    let IsText = λ (part : PartText) (v : Widening) (text : Text). IsSection c.args.form w (widened every v words) v part text in
+    let IsText = λ (part : PartText) (v : Widening) (text : Text). IsSection c.args.form w words (widened every v words) v part text in
     let beyond : length vs ≤ i = omega arith in
     let so = subst (λ z. AllZip (IsSo IsText (head_text c.args.form w words (plan_text c.args.plan.now)) z) parts (texts_of c.loop-widening.texts.items)) (take_all i vs beyond) c.loop-widening.invariant in
     text_done c.args.form w words every (plan_text c.args.plan.now) c.requires parts (texts_of c.loop-widening.texts.items)

@@ -10,6 +10,6 @@ use Rattle.why_nots.proofs.widened_sections.planned_sections.Goals as goal
 pub returns-else-is_one_on : goal.returns-else-is_one_on
 returns-else-is_one_on c =
     IfOk-weaker c.same_sections.result _ _ (λ sections shown.
-    all_off c.args.form (workspace_text c.args.workspace.now) (words_text holds_on c.args.words.now) c.args.widening (plan_text c.args.plan.now) c.args.parts.now
+    all_off c.args.form (workspace_text c.args.base.workspace.now) (words_text holds_on c.args.base.words.now) (words_text holds_on c.args.words.now) c.args.widening (plan_text c.args.plan.now) c.args.parts.now
     c.is_one_on.result (texts_of sections.items) c.requires c.is_one_on.ensures c.if-is_one_on.false shown)
     c.same_sections.ensures

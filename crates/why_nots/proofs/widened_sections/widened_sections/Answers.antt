@@ -11,6 +11,6 @@ use Rattle.why_nots.proofs.widened_sections.widened_sections.Goals as goal
 pub returns-in-Err : goal.returns-in-Err
 returns-in-Err c =
     IfOk-weaker c.unplanned_sections.result _ _ (λ sections shown.
-    unplanned c.args.form (workspace_text c.args.workspace.now) (words_text holds_on c.args.words.now) c.args.widening c.in-Err.fault (map part_text c.args.parts.now) (texts_of sections.items)
+    unplanned c.args.form (workspace_text c.args.base.workspace.now) (words_text holds_on c.args.base.words.now) (words_text holds_on c.args.words.now) c.args.widening c.in-Err.fault (map part_text c.args.parts.now) (texts_of sections.items)
     c.in-Err.ensures.fault (search rules) shown)
     c.unplanned_sections.ensures
