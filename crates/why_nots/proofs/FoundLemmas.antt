@@ -34,7 +34,7 @@ use Rattle.why_nots.specs.Typed.{TurnsOn, TypedText}
 use Rattle.why_nots.specs.Unbuilt.{message_if, unbuilt_message}
 use Rattle.why_nots.specs.declared.parts.OffPart.{OffPart}
 use Rattle.why_nots.specs.inner.Lists.{answer_by, answer_sections, answers_by, first_spot, has_part, message_about, same_sections, side_where}
-use Rattle.why_nots.proofs.Standings.{built_is_on, off_is_off}
+use Rattle.why_nots.proofs.StandingLemmas.{built_is_on, off_is_off}
 
 true_or : (a b : Bool) → (a || b) ≡ false → (a ≡ false) × (b ≡ false)
 true_or true b h = absurd (cc)

@@ -1,6 +1,6 @@
 pub mod Each
 pub mod Gathered
 pub mod FoundLemmas
-pub mod Standings
+pub mod StandingLemmas
 pub mod Tokens
 pub mod Zips

@@ -1,7 +1,8 @@
 -- The texts about several parts.
 use Rattle.std.specs.Prelude.{ℕ, Bool, true, false, List, [], ◌∷◌, ◌++◌, Option, Some, None, codes, if◌then◌else◌, map, nat_eq, option_map, slice_get, string_bytes}
 use Rattle.std.specs.List.{zip}
-use Rattle.std.specs.Global.{String, Vec}
+use Rattle.std.specs.Global.{Vec}
+use Rattle.std.proofs.Common.{Global, String}
 use Rattle.std.specs.Str.{bytes_eq}
 use Rattle.built_parts.specs.declared.state.PartState.{PartState}
 use Rattle.cargo_workspaces.specs.Workspaces.{Text, PackageText}
@@ -29,7 +30,7 @@ use Rattle.why_nots.specs.declared.typed_words.TypedWords.{TypedWords}
 abbrev pub texts_of : List (Vec ℕ) → List Text
 texts_of texts = map (λ t. t.items) texts
 
-abbrev pub optional_texts : List (Option String) → List (Option Text)
+abbrev pub optional_texts : List (Option (String Global)) → List (Option Text)
 optional_texts texts = map (option_map string_bytes) texts
 
 -- The value that words contain.
