@@ -29,6 +29,21 @@ fn package_title(
     spot_label(alloc, workspace, sides, spot_on(side, part))
 }
 
+/// Appends how package `ix` is called on `side`.
+fn push_title(
+    alloc: Global,
+    text: &mut String,
+    workspace: &Workspace<'_>,
+    sides: bool,
+    side: Side,
+    ix: usize,
+) -> Result<(), AllocError>
+    ensures { OnOk result (string_bytes text.new ≡ string_bytes text.old ++ spec.package_title (workspace_text workspace.now).packages sides side ix) }
+{
+    let title = package_title(alloc, workspace, sides, side, ix)?;
+    text.push_str(title.as_str())
+}
+
 /// Appends that package `lacking` lacks a build script, if there is one.
 fn push_script(
     alloc: Global,
@@ -41,9 +56,8 @@ fn push_script(
     match lacking {
         None => Ok(()),
         Some(ix) => {
-            let title = package_title(alloc, workspace, false, Side::Target, ix)?;
             text.push_str(": ")?;
-            text.push_str(title.as_str())?;
+            push_title(alloc, text, workspace, false, Side::Target, ix)?;
             text.push_str(" has no build script")
         }
     }
@@ -60,10 +74,9 @@ fn unbuilt_message(
 ) -> Result<String, AllocError>
     ensures { IfOk result (λ message. string_bytes message ≡ spec.unbuilt_message (workspace_text workspace.now).packages sides lacking ix side) }
 {
-    let title = package_title(alloc, workspace, sides, side, ix)?;
     let mut text = String::new(alloc);
     text.push_str("asked for, but ")?;
-    text.push_str(title.as_str())?;
+    push_title(alloc, &mut text, workspace, sides, side, ix)?;
     text.push_str(" isn't built")?;
     push_script(alloc, &mut text, workspace, lacking)?;
     Ok(text)
