@@ -2,7 +2,7 @@
 use Rattle.std.specs.Prelude.{◌≡◌, Option, Bool, true, false, IfSome, string_bytes}
 use Rattle.std.specs.Io.KnownBytes.{Keeps}
 use Rattle.cargo_workspaces.specs.Workspaces.{Text}
-use Rattle.feats_comparisons.specs.Comparisons.{IsComparison, IsNoComparison}
+use Rattle.feats_comparisons.specs.Comparisons.{IsNoComparison, IsShown}
 use Rattle.feats_comparisons.specs.Sides.{SideText, side}
 use Rattle.feats_files.specs.declared.fault.Fault.{Fault}
 use Rattle.feats_files.specs.declared.fault.Fault.TheVariants as fault
@@ -23,16 +23,16 @@ read_side inputs left has_failed = record { inputs = inputs; left = left; has_fa
 abbrev pub AreRelated : ReadSide → ReadSide → (SideText → SideText → Type 0) → Type 0
 AreRelated old_side new_side Q = IfSome old_side.left (λ o. IfSome new_side.left (λ n. Q (side old_side.inputs o) (side new_side.inputs n)))
 
--- The end of a run over two documents that has an answer: its text, whether it is negative, and the part of it that was written.
+-- The end of a run over two documents that has an answer: its text as it is shown, whether it is negative, and the part of it that was written.
 pub record IsWritten (old_side new_side : SideText) (ended : Ended) (old new : Option Text) : Type 0 where
   pub text : Text
-  pub is_comparison : IsComparison old_side new_side (record { content = text; is_negative = ended.is_negative })
+  pub is_shown : IsShown old_side new_side (record { content = text; is_negative = ended.is_negative })
   pub written : Writes ended.is_written text old new
 
--- THE END of a run over two readers that has an answer: its text, whether it is negative, and the part of it that was written.
+-- THE END of a run over two readers that has an answer: its text as it is shown, whether it is negative, and the part of it that was written.
 pub record HasComparison (old_side new_side : ReadSide) (ended : Ended) (old new : Option Text) : Type 0 where
   pub text : Text
-  pub is_comparison : AreRelated old_side new_side (λ o n. IsComparison o n (record { content = text; is_negative = ended.is_negative }))
+  pub is_shown : AreRelated old_side new_side (λ o n. IsShown o n (record { content = text; is_negative = ended.is_negative }))
   pub written : Writes ended.is_written text old new
 
 -- Why a run has no answer: a read of the old document failed, or one of the new document, or the sides have none.

@@ -1,14 +1,14 @@
 //! The comparison of two builds.
 ghost use Rattle.std.specs.Prelude.{IfOk, IfErr};
 ghost use Rattle.feats_differences.specs.feats_answers.AnswerViews.{answer_text};
-ghost use Rattle.feats_comparisons.specs.Comparisons.{IsComparison, IsNoComparison};
+ghost use Rattle.feats_comparisons.specs.Comparisons.{IsComparison, IsNoComparison, IsShown};
 ghost use Rattle.feats_comparisons.specs.SideView.{side_text};
 ghost use Rattle.feats_files.specs.Messages.{Says};
 
 use crate::sides::Side;
 use crate::visitors::OldVisitor;
 use feats_differences::Answer;
-use feats_files::Fault;
+use feats_files::{Fault, shown_answer};
 use feats_plans::visit_plan;
 use std::alloc::Global;
 
@@ -20,4 +20,21 @@ pub fn compare(alloc: Global, old: Side<'_, '_, '_>, new: Side<'_, '_, '_>) -> R
 {
     let visitor = OldVisitor { new };
     visit_plan(alloc, old.arguments, old.files, old.document, &visitor)
+}
+
+/// Returns the answer of `compare` as it is written: each control character but the line feeds is escaped. Returns the faults of `compare`.
+pub(crate) fn shown(
+    alloc: Global,
+    old: Side<'_, '_, '_>,
+    new: Side<'_, '_, '_>,
+) -> Result<Answer, Fault>
+    ensures answer { IfOk result (λ answer. IsShown (side_text old.entry) (side_text new.entry) (answer_text answer)) }
+    ensures fault { IfErr result (λ fault. Says fault (IsNoComparison (side_text old.entry) (side_text new.entry))) }
+{
+    let answer = compare(alloc, old, new)?;
+    let text = shown_answer(alloc, old.arguments.format, &answer.text)?;
+    Ok(Answer {
+        text,
+        is_negative: answer.is_negative,
+    })
 }

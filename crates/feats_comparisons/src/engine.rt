@@ -6,13 +6,14 @@ ghost use Rattle.feats_comparisons.specs.Run.{Ends, HasComparison, IsWritten, re
 ghost use Rattle.feats_comparisons.specs.SideView.{inputs_of, side_text};
 ghost use Rattle.feats_files.specs.Messages.{Says};
 
-use crate::comparing::compare;
+use crate::comparing::shown;
 use crate::sides::{Side, SideInputs};
 use byte_devices::{ByteInput, ByteOutput};
 use feats_files::{Ended, Fault, bytes_of, write_answer};
 use std::alloc::Global;
 
-/// Writes the answer to `diff` about the builds of `old` and `new` to `writer`. Returns the faults of `compare`; then it writes nothing.
+/// Writes the answer to `diff` about the builds of `old` and `new` to `writer`, as it is shown. Returns the faults of `compare`; then it
+/// writes nothing.
 fn write_comparison<W: ByteOutput>(
     alloc: Global,
     old: Side<'_, '_, '_>,
@@ -25,13 +26,13 @@ fn write_comparison<W: ByteOutput>(
     ensures fault { IfErr result (λ fault. Says fault (IsNoComparison (side_text old.entry) (side_text new.entry))) }
     ensures kept { OnErr result (Keeps (W.held writer.old) (W.held writer.new) × (W.failed writer.new ≡ false)) }
 {
-    let answer = compare(alloc, old, new)?;
+    let answer = shown(alloc, old, new)?;
     Ok(write_answer(writer, &answer.text, answer.is_negative))
 }
 
 /// Reads the document of `old` from `old_reader` and that of `new` from `new_reader`, each to its end, and writes the answer to `diff`
-/// about their builds to `writer`, in the format of `old`. Returns whether they differ, and whether the answer was written: the first
-/// write that fails ends the run.
+/// about their builds to `writer`, in the format of `old`. Control characters in it are escaped, but for the line feeds at the ends of
+/// its lines. Returns whether the builds differ, and whether the answer was written: the first write that fails ends the run.
 ///
 /// Writes nothing before the whole answer is known. Returns the first fault: a failed read of `old` and then of `new`, and then the
 /// faults of `compare`.
