@@ -1,4 +1,4 @@
--- How a run of `diff` ends, and what it has written.
+-- The end of a run of `diff`: its answer or its fault, and the bytes that it has written.
 use Rattle.std.specs.Prelude.{◌≡◌, Option, Bool, true, false, IfSome, string_bytes}
 use Rattle.std.specs.Io.KnownBytes.{Keeps}
 use Rattle.cargo_workspaces.specs.Workspaces.{Text}

@@ -26,7 +26,7 @@ abbrev pub IsVersion : SourceText → Text → Resolver → Type 0
 IsVersion (version_given version) bytes resolver = resolver ≡ version
 IsVersion (manifest_at path) bytes resolver = IsResolverOf bytes (Ok resolver)
 
--- Whether the fault is that of an allocation, of which `IsResolverOf` claims nothing.
+-- Whether the fault is out of memory. `IsResolverOf` holds for that fault always, so a message may not rest on it.
 abbrev pub is_memory : ManifestFault → Bool
 is_memory manifest.Memory = true
 is_memory _ = false

@@ -25,7 +25,7 @@ abbrev pub specs_message : List PackageText → PlatformFault → Text
 specs_message packages (Malformed p spec at) = joined (codes "package " ∷ id_at packages p ∷ codes " names `" ∷ spec.now ∷ codes "`, which is no platform spec: write a triple or `cfg(..)`" ∷ [])
 specs_message packages Memory = codes "out of memory"
 
--- Whether the fault is that of an allocation, of which `IsFaultOf` claims nothing.
+-- Whether the fault is out of memory. `IsFaultOf` holds for that fault always, so a message may not rest on it.
 abbrev pub is_memory : PlatformFault → Bool
 is_memory Memory = true
 is_memory _ = false

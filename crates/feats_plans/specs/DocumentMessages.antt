@@ -21,7 +21,7 @@ abbrev pub names_message : Text → Text → Text → Text → Text
 names_message owner target first second =
     joined (codes "the document: package `" ∷ owner ∷ codes "`: dependency on `" ∷ target ∷ codes "` is named `" ∷ first ∷ codes "` and `" ∷ second ∷ codes "`" ∷ [])
 
--- The message about a document that lacks what is read of it, or contradicts itself.
+-- The message about a refusal: a field of the document is missing, malformed or contradicts another one.
 abbrev pub read_message : Refusal → Text
 read_message (bad_field place name) = field_message place name (codes ": missing or of another type")
 read_message (repeated place) = field_message place (codes "id") (codes ": repeated")

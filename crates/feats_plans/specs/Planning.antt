@@ -29,7 +29,7 @@ pub record AfterPlan (inputs : InputsText) (w : WorkspaceText) (words : WordsTex
   pub is_plan : IsPlanOf w words plan
   pub holds : Q (planned inputs w words plan)
 
--- Whether the fault is that of an allocation, of which `IsRefusal` claims nothing.
+-- Whether the fault is out of memory. `IsRefusal` holds for that fault always, so a message may not rest on it.
 abbrev pub is_memory : PlanFault → Bool
 is_memory fault.Memory = true
 is_memory _ = false

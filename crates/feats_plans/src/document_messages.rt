@@ -66,7 +66,7 @@ fn two_names(alloc: Global, package: &str, target: &str, first: &str, second: &s
     )
 }
 
-/// Returns the refusal of a document that lacks what is read of it, or contradicts itself.
+/// Returns the refusal for `fault`: a field of the document is missing, malformed or contradicts another one.
 fn read_refused(alloc: Global, fault: &DocumentFault) -> Fault
     ensures { IsRefused (spec.read_message (refusal_of fault.now)) result }
 {

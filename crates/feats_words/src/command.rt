@@ -29,7 +29,7 @@ fn with_arg<'a>(command: Made<'a>, arg: Arg<'a>) -> Made<'a>
     }
 }
 
-/// Adds the options that name the files of the platforms and the resolver, of which the last has this help.
+/// Returns `command` with the options for platforms and for the resolver. `resolver_help` is the help of `--resolver`.
 fn with_platforms<'a>(alloc: Global, command: Made<'a>, resolver_help: &'a str) -> Made<'a>
     ensures { (app : App) → IfOk command.entry (λ c. IsMade c app) → IfOk result (λ r. IsMade r (with_rules app spec.platform_rules)) }
 {
