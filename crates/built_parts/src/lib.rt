@@ -1,4 +1,4 @@
-//! Which parts of packages a plan builds: what is on, in a package that is built.
+//! The parts that a plan builds: those that are on, in packages that are built.
 #![tactic(auto)]
 
 mod built_parts;

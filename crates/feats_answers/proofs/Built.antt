@@ -29,7 +29,7 @@ same_scripts f g same [] = refl
 same_scripts f g same (s ∷ ss) =
     ap (λ (lacking : Option ℕ). unbuilt_at s lacking ∷ map (with_script f) ss) (same s.number) ∙ ap (λ (us : List UnbuiltText). with_script g s ∷ us) (same_scripts f g same ss)
 
--- texts of which there is none
+-- whether a list contains no text
 none_of : (ts : List (Vec ℕ)) → (length ts == 0) ≡ is_none (texts_of ts)
 none_of [] = refl
 none_of (t ∷ ts) = grind (arith, nat_tests)

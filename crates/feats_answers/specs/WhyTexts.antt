@@ -78,7 +78,7 @@ is_none (first ∷ more) = false
 abbrev pub gathered_why : Format → List PackageText → Text → List NamedText → List Text → AnswerText
 gathered_why form packages word parts texts = gathered form packages word parts off_end texts
 
--- The answer of the texts that explain what is built, and then of the lines about what isn't. It is negative if nothing is built.
+-- The answer: the texts `shown`, which explain built parts, and then `lines` about unbuilt parts. It is negative if `shown` is empty.
 abbrev pub answer_of : Format → List PackageText → Text → List NamedText → List Text → Text → AnswerText
 answer_of form packages word parts shown lines = record {
   content = (gathered_why form packages word parts (shown ++ unless_empty lines)).content;

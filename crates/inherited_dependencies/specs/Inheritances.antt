@@ -32,7 +32,7 @@ entries_in manifest ds = map (entry_in manifest) ds
 abbrev pub entries_of : WorkspaceText → List Data → ℕ → PackageText → List (Option Data)
 entries_of w ms p x = entries_in (manifest_of w ms p x.name) x.declarations
 
--- For each of the packages, of which the first has number `p`.
+-- For each of the packages. The number of the first one is `p`.
 abbrev pub entries_from : WorkspaceText → List Data → ℕ → List PackageText → List (List (Option Data))
 entries_from w ms p [] = []
 entries_from w ms p (x ∷ xs) = entries_of w ms p x ∷ entries_from w ms (p + 1) xs
@@ -47,7 +47,7 @@ pub record InheritanceText : Type 0 where
   pub table : Option Data
   pub entries : List (List (Option Data))
 
--- WHAT IS INHERITED in the workspace, by these manifests.
+-- THE INHERITED DEPENDENCIES of the workspace, by these manifests.
 abbrev pub inheritance_in : WorkspaceText → List Data → InheritanceText
 inheritance_in w ms = record { table = table_in ms; entries = entries_from w ms 0 w.packages }
 

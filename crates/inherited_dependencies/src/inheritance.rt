@@ -1,4 +1,4 @@
-//! What is inherited in a workspace.
+//! The dependencies that members inherit in a workspace.
 ghost use Rattle.std.specs.Prelude.{◌≡◌, IfOk, map, nat_eq, option_map, option_and_then};
 ghost use Rattle.std.specs.List.{list_any};
 ghost use Rattle.toml.specs.View.{view};

@@ -153,7 +153,7 @@ edit_if (Some place) without = record { place = place; without = without } ∷ [
 abbrev pub edit_of : InheritanceText → ℕ → ℕ → Text → WithoutText → List EditText
 edit_of i p n name without = edit_if (place_of i p n name without) without
 
--- The edits of declarations of package `p`, of which the first has number `n`.
+-- The edits of declarations of package `p`. The number of the first declaration is `n`.
 abbrev pub edits_from : InheritanceText → ℕ → ℕ → List DeclarationText → List EditText
 edits_from i p n [] = []
 edits_from i p n (d ∷ ds) = flat_map (edit_of i p n d.name) (parts_of d) ++ edits_from i p (n + 1) ds
