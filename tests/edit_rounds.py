@@ -5,8 +5,10 @@ check of these functions: an edit is refused if the function that it changes isn
 Each function must be proved without an edit first. An edit outside a function, or one that a round didn't refuse, is checked alone, with
 the whole crate.
 """
+import os
 import re
 import subprocess
+import tempfile
 
 FUNCTION = re.compile(r'^( *)(?:pub(?:\([^)]*\))? )?(?:const |unsafe )*fn (\w+)')
 # A verdict on a function. One whose first reason is a callee's verdict says nothing of the function.
@@ -133,11 +135,21 @@ class Verdicts:
         return '; '.join(f'{"::".join([*module_of(it[0]), it[1]])}: {", ".join(self.goals(it)) or "no goal is named"}' for it in refused)
 
 
+def output_of(words, folder):
+    """Runs a command in `folder`. Returns its output, its exit status, and its processor seconds."""
+    with tempfile.TemporaryFile('w+', errors='replace') as output:
+        ran = subprocess.Popen(words, cwd=folder, stdin=subprocess.DEVNULL, stdout=output, stderr=subprocess.STDOUT)
+        _, status, used = os.wait4(ran.pid, 0)
+        ran.returncode = os.waitstatus_to_exitcode(status)
+        output.seek(0)
+        return output.read(), ran.returncode, used.ru_utime + used.ru_stime
+
+
 class Rounds:
-    """The checks of a crate's edits. `check` is the command of a check, which is run in `folder`."""
+    """The checks of a crate's edits. `check` is the command of a check, which is run in `folder`; `seconds` is their processor time."""
 
     def __init__(self, crate, folder, check):
-        self.crate, self.folder, self.check = crate, folder, check
+        self.crate, self.folder, self.check, self.seconds = crate, folder, check, 0
         # The names of functions for a check, as far as they differ from those that spelled() makes.
         self.names = {}
 
@@ -166,8 +178,9 @@ class Rounds:
         try:
             for path, text in texts.items():
                 (self.folder / path).write_text(text)
-            ran = subprocess.run([*self.check, *only], cwd=self.folder, stdin=subprocess.DEVNULL, stdout=subprocess.PIPE, stderr=subprocess.STDOUT, text=True, errors='replace')
-            return Verdicts(self.crate, self.folder, ran.stdout, texts), ran.returncode
+            said, status, seconds = output_of([*self.check, *only], self.folder)
+            self.seconds += seconds
+            return Verdicts(self.crate, self.folder, said, texts), status
         finally:
             for path, text in before.items():
                 (self.folder / path).write_text(text)
@@ -218,22 +231,22 @@ class Rounds:
         return True, found.reason(edit.functions(self.folder) or set()) or ', '.join('::'.join(words) for words in refused)
 
     def try_all(self, edits):
-        """Tries `edits`, prints a line for each, and returns how many were refused and how many were not."""
-        left, alone, refused = list(edits), [], 0
+        """Tries `edits`, and prints a line for each. Returns the names of those that were refused, each with the reason."""
+        left, alone, refused = list(edits), [], {}
         while left:
             taken, _ = self.round_of(left)
             if not taken:
                 alone, left = alone + left, []
                 break
-            well = self.refused_together(taken)
-            for edit, reason in well.items():
-                print(f'{self.crate}/{edit.name}: refused by {reason}', flush=True)
-            refused += len(well)
-            alone += [edit for edit in taken if edit not in well]
+            well = {edit.name: reason for edit, reason in self.refused_together(taken).items()}
+            for name, reason in well.items():
+                print(f'{self.crate}/{name}: refused by {reason}', flush=True)
+            refused.update(well)
+            alone += [edit for edit in taken if edit.name not in well]
             left = [edit for edit in left if edit not in taken]
-        failed = 0
         for edit in alone:
             is_refused, reason = self.alone(edit)
-            failed, refused = failed + (not is_refused), refused + is_refused
+            if is_refused:
+                refused[edit.name] = reason
             print(f'{self.crate}/{edit.name}: {"refused by" if is_refused else "FAILED:"} {reason}', flush=True)
-        return refused, failed
+        return refused

@@ -183,7 +183,7 @@ fn outcome(ended: Ended, is_closed: bool) -> Result<bool, Fault> {
 fn warn(rt: &HostRuntime, warnings: &[String]) {
     for warning in warnings {
         // A failed write to standard error can't be reported anywhere.
-        let _ = match shown_message(rt.alloc(), warning) {
+        let _ = match escaped(rt.alloc(), warning) {
             Ok(shown) => eprintln!(rt; "feats: {shown}"),
             Err(_) => eprintln!(rt; "feats: out of memory for a warning"),
         };
@@ -350,25 +350,13 @@ fn help(rt: &HostRuntime, error: &Error) -> Result<bool, Fault> {
     write_bytes(rt, text.as_bytes())
 }
 
-/// Returns `message` with its control characters escaped. A line feed stays if two spaces follow it: so begin the lines of a list.
-fn shown_message(alloc: Global, message: &str) -> Result<String, AllocError> {
-    let mut shown = String::new(alloc);
-    let mut is_first = true;
-    for part in message.split("\n  ") {
-        let part = escaped(alloc, part)?;
-        if !is_first {
-            shown.push_str("\n  ")?;
-        }
-        shown.push_str(part.as_str())?;
-        is_first = false;
-    }
-    Ok(shown)
-}
-
 /// Returns the line, or the lines, for `fault`.
 fn message_of(alloc: Global, fault: &Fault) -> Result<String, AllocError> {
     let message = format!(in alloc; "{fault}")?;
-    shown_message(alloc, message.as_str())
+    match fault {
+        Fault::Listed { .. } => Ok(message),
+        _ => escaped(alloc, message.as_str()),
+    }
 }
 
 /// Writes the line for `fault` to standard error. A failed write there can't be reported anywhere.

@@ -5,6 +5,7 @@ use Rattle.plan_names.specs.Faults.{NameRefusal, unknown, several, out_of_memory
 use Rattle.plan_names.specs.Names.{NamedText, PartText, whole, feature, dependency}
 use Rattle.feats_files.specs.Messages.{joined}
 use Rattle.feats_files.specs.Platforms.{id_at}
+use Rattle.shown_texts.specs.Shown.{escaped}
 
 -- What follows the package in the name of a part.
 abbrev pub part_mark : PartText → Text
@@ -19,14 +20,14 @@ part_name (dependency name) = name
 
 -- The line of a candidate: the id of the package, and the part.
 abbrev pub part_line : List PackageText → NamedText → Text
-part_line packages n = joined (codes "\n  " ∷ id_at packages n.owner ∷ part_mark n.part ∷ part_name n.part ∷ [])
+part_line packages n = joined (codes "\n  " ∷ escaped (id_at packages n.owner) ∷ part_mark n.part ∷ escaped (part_name n.part) ∷ [])
 
 abbrev pub several_message : List PackageText → Text → List NamedText → Text
-several_message packages word candidates = joined (codes "`" ∷ word ∷ codes "` has several meanings: write one of these" ∷ []) ++ flat_map (part_line packages) candidates
+several_message packages word candidates = joined (codes "`" ∷ escaped word ∷ codes "` has several meanings: write one of these" ∷ []) ++ flat_map (part_line packages) candidates
 
 -- The message about a word that names nothing. It may end with suggestions.
 abbrev pub IsUnknownMessage : Text → Text → Type 0
-IsUnknownMessage word message = (suggestions : Text) × (message ≡ joined (codes "nothing in the document has the name `" ∷ word ∷ codes "`" ∷ suggestions ∷ []))
+IsUnknownMessage word message = (suggestions : Text) × (message ≡ joined (codes "nothing in the document has the name `" ∷ escaped word ∷ codes "`" ∷ suggestions ∷ []))
 
 abbrev pub IsNameMessage : List PackageText → NameRefusal → Text → Type 0
 IsNameMessage packages (unknown word) message = IsUnknownMessage word message

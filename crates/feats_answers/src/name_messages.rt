@@ -1,14 +1,13 @@
 //! Messages about words that name nothing, or several things.
-ghost use Rattle.std.specs.Prelude.{◌≡◌, IfOk, OnOk, map};
+ghost use Rattle.std.specs.Prelude.{◌≡◌, ◌++◌, IfOk, OnOk, map, string_bytes};
 ghost use Rattle.cargo_workspaces.specs.WorkspaceView.{workspace_text};
 ghost use Rattle.plan_names.specs.Faults.{refusal_of};
 ghost use Rattle.plan_names.specs.Views.{named_text, part_text};
 ghost use Rattle.feats_files.specs.Messages.{Says};
-ghost use Rattle.feats_files.specs.Parts.{parts_text};
 ghost use Rattle.feats_answers.specs.NameMessages as spec;
 
 use cargo_workspaces::Workspace;
-use feats_files::{Fault, id_at, refused};
+use feats_files::{Fault, id_at, push_escaped};
 use plan_names::{NameFault, Named, Part, suggestions};
 use std::alloc::{AllocError, Global};
 
@@ -33,41 +32,54 @@ fn part_name(part: Part<'_>) -> &str
     }
 }
 
-/// Returns the parts of the message about a word that several parts fit.
-fn several_parts<'p>(
+/// Appends the line of `candidate`.
+fn push_candidate(
     alloc: Global,
-    workspace: &'p Workspace<'_>,
-    word: &'p str,
-    candidates: &[Named<'p>],
-) -> Result<Vec<&'p str>, AllocError>
-    ensures { IfOk result (λ parts. parts_text parts.items ≡ spec.several_message (workspace_text workspace.now).packages word.now (map named_text candidates.now)) }
+    text: &mut String,
+    workspace: &Workspace<'_>,
+    candidate: Named<'_>,
+) -> Result<(), AllocError>
+    ensures { OnOk result (string_bytes text.new ≡ string_bytes text.old ++ spec.part_line (workspace_text workspace.now).packages (named_text candidate.entry)) }
 {
-    let mut parts = Vec::new(alloc);
-    parts.push("`")?;
-    parts.push(word)?;
-    parts.push("` has several meanings: write one of these")?;
+    text.push_str("\n  ")?;
+    push_escaped(alloc, text, id_at(workspace, candidate.package))?;
+    text.push_str(part_mark(candidate.part))?;
+    push_escaped(alloc, text, part_name(candidate.part))?;
+    Ok(())
+}
+
+/// Returns the message about `word`, which `candidates` fit.
+fn several_message(
+    alloc: Global,
+    workspace: &Workspace<'_>,
+    word: &str,
+    candidates: &[Named<'_>],
+) -> Result<String, AllocError>
+    ensures { IfOk result (λ text. string_bytes text ≡ spec.several_message (workspace_text workspace.now).packages word.now (map named_text candidates.now)) }
+{
+    let mut text = String::from_str(alloc, "`")?;
+    push_escaped(alloc, &mut text, word)?;
+    text.push_str("` has several meanings: write one of these")?;
     for candidate in candidates {
-        parts.push("\n  ")?;
-        parts.push(id_at(workspace, candidate.package))?;
-        parts.push(part_mark(candidate.part))?;
-        parts.push(part_name(candidate.part))?;
+        push_candidate(alloc, &mut text, workspace, *candidate)?;
     }
-    Ok(parts)
+    Ok(text)
 }
 
 /// Appends a part that may be meant.
 fn push_suggestion(
+    alloc: Global,
     text: &mut String,
     workspace: &Workspace<'_>,
     named: Named<'_>,
 ) -> Result<(), AllocError> {
     if let Some(package) = workspace.packages().get(named.package) {
         text.push_str("\n  ")?;
-        text.push_str(package.name)?;
+        push_escaped(alloc, text, package.name)?;
         text.push_str("@")?;
-        text.push_str(package.version)?;
+        push_escaped(alloc, text, package.version)?;
         text.push_str(part_mark(named.part))?;
-        text.push_str(part_name(named.part))?;
+        push_escaped(alloc, text, part_name(named.part))?;
     }
     Ok(())
 }
@@ -83,7 +95,7 @@ fn text_of_suggestions(
     }
     let mut text = String::from_str(alloc, ": did you mean one of these?")?;
     for one in named {
-        push_suggestion(&mut text, workspace, *one)?;
+        push_suggestion(alloc, &mut text, workspace, *one)?;
     }
     Ok(text)
 }
@@ -94,20 +106,28 @@ fn suggested(alloc: Global, workspace: &Workspace<'_>, word: &str) -> Result<Str
     text_of_suggestions(alloc, workspace, &named)
 }
 
+/// Returns the message about `word`, which names nothing.
+fn unknown_message(
+    alloc: Global,
+    workspace: &Workspace<'_>,
+    word: &str,
+) -> Result<String, AllocError>
+    ensures { IfOk result (λ text. spec.IsUnknownMessage word.now (string_bytes text)) }
+{
+    let end = suggested(alloc, workspace, word)?;
+    let mut text = String::from_str(alloc, "nothing in the document has the name `")?;
+    push_escaped(alloc, &mut text, word)?;
+    text.push_str("`")?;
+    text.push_str(end.as_str())?;
+    Ok(text)
+}
+
 /// Returns the refusal of `word`, which names nothing.
 fn unknown_refused(alloc: Global, workspace: &Workspace<'_>, word: &str) -> Fault
     ensures { Says result (spec.IsUnknownMessage word.now) }
 {
-    match suggested(alloc, workspace, word) {
-        Ok(end) => refused(
-            alloc,
-            &[
-                "nothing in the document has the name `",
-                word,
-                "`",
-                end.as_str(),
-            ],
-        ),
+    match unknown_message(alloc, workspace, word) {
+        Ok(message) => Fault::Listed { message },
         Err(_) => Fault::Memory,
     }
 }
@@ -121,8 +141,8 @@ fn several_refused(
 ) -> Fault
     ensures { Says result (λ message. message ≡ spec.several_message (workspace_text workspace.now).packages word.now (map named_text candidates.now)) }
 {
-    match several_parts(alloc, workspace, word, candidates) {
-        Ok(parts) => refused(alloc, &parts),
+    match several_message(alloc, workspace, word, candidates) {
+        Ok(message) => Fault::Listed { message },
         Err(_) => Fault::Memory,
     }
 }

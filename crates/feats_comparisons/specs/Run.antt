@@ -44,5 +44,6 @@ pub data IsRefusedBy (old_side new_side : ReadSide) (message : Text) : Type 0 wh
 -- A run ended with this fault, with the output `old` before it and `new` after it. Nothing was written.
 abbrev pub Ends : ReadSide → ReadSide → Fault → Option Text → Option Text → Bool → Type 0
 Ends old_side new_side (fault.Refused message) old new write_failed = Keeps old new × (write_failed ≡ false) × IsRefusedBy old_side new_side (string_bytes message)
+Ends old_side new_side (fault.Listed message) old new write_failed = Keeps old new × (write_failed ≡ false) × IsRefusedBy old_side new_side (string_bytes message)
 Ends old_side new_side fault.Memory old new write_failed = Keeps old new × (write_failed ≡ false)
 Ends old_side new_side fault.CannotWrite old new write_failed = ⊥

@@ -11,6 +11,7 @@ joined texts = flat_map (λ t. t) texts
 -- The fault has such a message; nothing is claimed if an allocation failed.
 abbrev pub Says : Fault → (Text → Type 0) → Type 0
 Says (fault.Refused message) claim = claim (string_bytes message)
+Says (fault.Listed message) claim = claim (string_bytes message)
 Says fault.Memory claim = Unit {0}
 Says fault.CannotWrite claim = ⊥
 

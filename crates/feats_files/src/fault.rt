@@ -10,6 +10,9 @@ pub enum Fault {
     /// The words, a file or the document are refused.
     #[error("{message}")]
     Refused { message: String },
+    /// As `Refused`, with a message of several lines. Its other control characters are escaped.
+    #[error("{message}")]
+    Listed { message: String },
     #[error("out of memory")]
     Memory,
     #[error("cannot write the answer")]

@@ -14,7 +14,7 @@ mod writing;
 pub use documents::document_of;
 pub use fault::Fault;
 pub use files::{PlatformFile, resolver, target, target_platforms};
-pub use message::refused;
+pub use message::{push_escaped, refused};
 pub use opening::{bytes_of, no_command, not_text, unopened};
 pub use platforms::{held_on, held_on_each, id_at};
 pub use showing::shown_answer;

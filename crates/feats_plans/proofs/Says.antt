@@ -8,6 +8,7 @@ use Rattle.feats_files.specs.declared.fault.Fault.TheVariants as fault
 
 pub says_more : (f : Fault) (P Q : Text → Type 0) → ((m : Text) → P m → Q m) → Says f P → Says f Q
 says_more (fault.Refused message) P Q more p = more (string_bytes message) p
+says_more (fault.Listed message) P Q more p = more (string_bytes message) p
 says_more fault.Memory P Q more p = tt
 says_more fault.CannotWrite P Q more p = absurd p
 

@@ -24,5 +24,6 @@ pub data IsRefusedBy (inputs : InputsText) (left : Option Text) (read_failed : B
 -- A run over the bytes `left` ended with this fault, with the output `old` before it and `new` after it. Nothing was written.
 abbrev pub Ends : InputsText → Fault → Option Text → Option Text → Option Text → Bool → Bool → Type 0
 Ends inputs (fault.Refused message) left old new read_failed write_failed = Keeps old new × (write_failed ≡ false) × IsRefusedBy inputs left read_failed (string_bytes message)
+Ends inputs (fault.Listed message) left old new read_failed write_failed = Keeps old new × (write_failed ≡ false) × IsRefusedBy inputs left read_failed (string_bytes message)
 Ends inputs fault.Memory left old new read_failed write_failed = Keeps old new × (write_failed ≡ false)
 Ends inputs fault.CannotWrite left old new read_failed write_failed = ⊥

@@ -32,7 +32,7 @@ fn message_of<'p>(
     ensures { IfOk result (λ message. string_bytes message ≡ plan_message (workspace_text workspace.now).packages fault.entry) }
 {
     match plan_refused(alloc, workspace, fault) {
-        Fault::Refused { message } => Ok(message),
+        Fault::Refused { message } | Fault::Listed { message } => Ok(message),
         Fault::Memory | Fault::CannotWrite => Err(AllocError),
     }
 }

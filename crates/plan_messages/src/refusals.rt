@@ -1,46 +1,57 @@
 //! The refusals of selections that have no plan.
-ghost use Rattle.std.specs.Prelude.{◌≡◌, IfOk};
+ghost use Rattle.std.specs.Prelude.{◌≡◌, ◌++◌, IfOk, OnOk, string_bytes};
 ghost use Rattle.cargo_workspaces.specs.WorkspaceView.{workspace_text};
 ghost use Rattle.feats_files.specs.Messages.{IsRefused};
-ghost use Rattle.feats_files.specs.Parts.{parts_text};
 ghost use Rattle.plan_messages.specs.Messages as spec;
 
 use cargo_plans::{PlanFault, Side, WordFault};
 use cargo_workspaces::Workspace;
-use feats_files::{Fault, id_at, refused};
+use feats_files::{Fault, id_at, push_escaped, refused};
 use std::alloc::{AllocError, Global};
 
-/// Returns the parts of the message about a word that several packages fit.
-fn several_parts<'p>(
+/// Appends the line with the id of `package`.
+fn push_id(
     alloc: Global,
-    workspace: &'p Workspace<'_>,
-    word: &'p str,
-    candidates: &[usize],
-) -> Result<Vec<&'p str>, AllocError>
-    ensures { IfOk result (λ parts. parts_text parts.items ≡ spec.several_message (workspace_text workspace.now).packages word.now candidates.now) }
+    text: &mut String,
+    workspace: &Workspace<'_>,
+    package: usize,
+) -> Result<(), AllocError>
+    ensures { OnOk result (string_bytes text.new ≡ string_bytes text.old ++ spec.id_line (workspace_text workspace.now).packages «package») }
 {
-    let mut parts = Vec::new(alloc);
-    parts.push("several packages fit `")?;
-    parts.push(word)?;
-    parts.push("`: write NAME@VERSION or one of these ids")?;
+    text.push_str("\n  ")?;
+    push_escaped(alloc, text, id_at(workspace, package))?;
+    Ok(())
+}
+
+/// Returns the message about `word`, which `candidates` fit.
+fn several_message(
+    alloc: Global,
+    workspace: &Workspace<'_>,
+    word: &str,
+    candidates: &[usize],
+) -> Result<String, AllocError>
+    ensures { IfOk result (λ text. string_bytes text ≡ spec.several_message (workspace_text workspace.now).packages word.now candidates.now) }
+{
+    let mut text = String::from_str(alloc, "several packages fit `")?;
+    push_escaped(alloc, &mut text, word)?;
+    text.push_str("`: write NAME@VERSION or one of these ids")?;
     for candidate in candidates {
-        parts.push("\n  ")?;
-        parts.push(id_at(workspace, *candidate))?;
+        push_id(alloc, &mut text, workspace, *candidate)?;
     }
-    Ok(parts)
+    Ok(text)
 }
 
 /// Returns the refusal of a word that several packages fit.
-fn several_refused<'p>(
+fn several_refused(
     alloc: Global,
-    workspace: &'p Workspace<'_>,
-    word: &'p str,
+    workspace: &Workspace<'_>,
+    word: &str,
     candidates: &[usize],
 ) -> Fault
     ensures { IsRefused (spec.several_message (workspace_text workspace.now).packages word.now candidates.now) result }
 {
-    match several_parts(alloc, workspace, word, candidates) {
-        Ok(parts) => refused(alloc, &parts),
+    match several_message(alloc, workspace, word, candidates) {
+        Ok(message) => Fault::Listed { message },
         Err(_) => Fault::Memory,
     }
 }

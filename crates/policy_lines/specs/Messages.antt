@@ -25,16 +25,16 @@ IsPolicyMessage file fault.Memory message = ⊥
 -- What follows the package in the name of a part.
 abbrev pub part_end : PartText → Text
 part_end whole = []
-part_end (feature name) = codes "/" ++ name
-part_end (dependency name) = codes "/dep:" ++ name
+part_end (feature name) = codes "/" ++ escaped name
+part_end (dependency name) = codes "/dep:" ++ escaped name
 
 -- The line of a candidate: the id of the package, and the part.
 abbrev pub candidate_line : List PackageText → NamedText → Text
-candidate_line packages n = codes "\n  " ++ (id_at packages n.owner ++ part_end n.part)
+candidate_line packages n = codes "\n  " ++ (escaped (id_at packages n.owner) ++ part_end n.part)
 
 -- The beginning of a message about a word in a line of a file.
 abbrev pub about : Text → ℕ → Text → Text → Text
-about file line word wrong = place file line ++ (codes "`" ++ (word ++ wrong))
+about file line word wrong = place file line ++ (codes "`" ++ (escaped word ++ wrong))
 
 -- The message about a word that means one of these parts.
 abbrev pub several_message : List PackageText → Text → ℕ → Text → List NamedText → Text
@@ -42,7 +42,7 @@ several_message packages file line word candidates =
     about file line word (codes "` has several meanings: write one of these") ++ flat_map (candidate_line packages) candidates
 
 abbrev pub triple_line : Text → Text
-triple_line triple = codes "\n  " ++ triple
+triple_line triple = codes "\n  " ++ escaped triple
 
 -- Those of the triples that aren't the host's.
 abbrev pub others_than : Text → List Text → List Text

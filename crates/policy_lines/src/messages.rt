@@ -11,7 +11,7 @@ ghost use Rattle.policy_lines.specs.Messages as spec;
 
 use crate::words::digits_of;
 use cargo_workspaces::Workspace;
-use feats_files::{Fault, id_at};
+use feats_files::{Fault, id_at, push_escaped};
 use plan_names::{Named, Part};
 use policies::{PolicyFault, Problem};
 use policy_checks::{Build, CheckFault};
@@ -24,6 +24,16 @@ pub(crate) fn refused_by(message: Result<String, AllocError>) -> Fault
 {
     match message {
         Ok(message) => Fault::Refused { message },
+        Err(_) => Fault::Memory,
+    }
+}
+
+/// Returns the refusal with this message of several lines, or `Memory` if there is none.
+fn listed_by(message: Result<String, AllocError>) -> Fault
+    ensures { (text : Text) → IfOk message (λ m. string_bytes m ≡ text) → Says result (λ m. m ≡ text) }
+{
+    match message {
+        Ok(message) => Fault::Listed { message },
         Err(_) => Fault::Memory,
     }
 }
@@ -78,30 +88,31 @@ pub(crate) fn about(
 {
     let mut text = place_of(alloc, file, line)?;
     text.push_str("`")?;
-    text.push_str(word)?;
+    push_escaped(alloc, &mut text, word)?;
     text.push_str(wrong)?;
     Ok(text)
 }
 
 /// Appends what follows the package in the name of `part`.
-fn push_part(text: &mut String, part: Part<'_>) -> Result<(), AllocError>
+fn push_part(alloc: Global, text: &mut String, part: Part<'_>) -> Result<(), AllocError>
     ensures { OnOk result (string_bytes text.new ≡ string_bytes text.old ++ spec.part_end (part_text part.entry)) }
 {
     match part {
         Part::Package => Ok(()),
         Part::Feature(name) => {
             text.push_str("/")?;
-            text.push_str(name)
+            push_escaped(alloc, text, name)
         }
         Part::Dependency(name) => {
             text.push_str("/dep:")?;
-            text.push_str(name)
+            push_escaped(alloc, text, name)
         }
     }
 }
 
 /// Appends the line of `candidate`.
 fn push_candidate(
+    alloc: Global,
     text: &mut String,
     workspace: &Workspace<'_>,
     candidate: Named<'_>,
@@ -109,12 +120,13 @@ fn push_candidate(
     ensures { OnOk result (string_bytes text.new ≡ string_bytes text.old ++ spec.candidate_line (workspace_text workspace.now).packages (named_text candidate.entry)) }
 {
     text.push_str("\n  ")?;
-    text.push_str(id_at(workspace, candidate.package))?;
-    push_part(text, candidate.part)
+    push_escaped(alloc, text, id_at(workspace, candidate.package))?;
+    push_part(alloc, text, candidate.part)
 }
 
 /// Appends the lines of `candidates`.
 fn push_candidates(
+    alloc: Global,
     text: &mut String,
     workspace: &Workspace<'_>,
     candidates: &[Named<'_>],
@@ -122,26 +134,31 @@ fn push_candidates(
     ensures { OnOk result (string_bytes text.new ≡ string_bytes text.old ++ flat_map (spec.candidate_line (workspace_text workspace.now).packages) (map named_text candidates.now)) }
 {
     for candidate in candidates {
-        push_candidate(text, workspace, *candidate)?;
+        push_candidate(alloc, text, workspace, *candidate)?;
     }
     Ok(())
 }
 
 /// Appends the line of `triple`.
-fn push_triple(text: &mut String, triple: &str) -> Result<(), AllocError>
+fn push_triple(alloc: Global, text: &mut String, triple: &str) -> Result<(), AllocError>
     ensures { OnOk result (string_bytes text.new ≡ string_bytes text.old ++ spec.triple_line triple.now) }
 {
     text.push_str("\n  ")?;
-    text.push_str(triple)
+    push_escaped(alloc, text, triple)
 }
 
 /// Appends the lines of those of `triples` that aren't `host`.
-fn push_others(text: &mut String, host: &str, triples: &[&str]) -> Result<(), AllocError>
+fn push_others(
+    alloc: Global,
+    text: &mut String,
+    host: &str,
+    triples: &[&str],
+) -> Result<(), AllocError>
     ensures { OnOk result (string_bytes text.new ≡ string_bytes text.old ++ flat_map spec.triple_line (spec.others_than host.now (texts triples.now))) }
 {
     for triple in triples {
         if *triple != host {
-            push_triple(text, triple)?;
+            push_triple(alloc, text, triple)?;
         }
     }
     Ok(())
@@ -160,7 +177,7 @@ fn several_message(
 {
     let wrong = "` has several meanings: write one of these";
     let mut text = about(alloc, file, line, word, wrong)?;
-    push_candidates(&mut text, workspace, candidates)?;
+    push_candidates(alloc, &mut text, workspace, candidates)?;
     Ok(text)
 }
 
@@ -176,8 +193,8 @@ fn platform_message(
 {
     let wrong = "` is neither the host nor a target of this build: write one of these";
     let mut text = about(alloc, file, line, triple, wrong)?;
-    push_triple(&mut text, build.host)?;
-    push_others(&mut text, build.host, build.targets)?;
+    push_triple(alloc, &mut text, build.host)?;
+    push_others(alloc, &mut text, build.host, build.targets)?;
     Ok(text)
 }
 
@@ -195,9 +212,9 @@ pub fn check_refused(
             line,
             word,
             candidates,
-        } => refused_by(several_message(alloc, build.workspace, file, line, word, &candidates)),
+        } => listed_by(several_message(alloc, build.workspace, file, line, word, &candidates)),
         CheckFault::NoPlatform { line, triple } => {
-            refused_by(platform_message(alloc, build, file, line, triple))
+            listed_by(platform_message(alloc, build, file, line, triple))
         }
         CheckFault::Memory => Fault::Memory,
     }
