@@ -67,8 +67,9 @@ pub struct Explained<'g> {
     set: FeatureSet<'g>,
     steps: Vec<(FeatureId<'g>, Reason<'g>)>,
     refused: Vec<OfferId<'g>>,
-    /// For each step, the nodes on which its reason leans.
-    leans: Vec<(usize, Vec<usize>)>,
+    direction: DependencyDirection,
+    /// The steps by numbers: a node, the number of its reason, an edge.
+    numbers: Vec<[usize; 3]>,
 }
 
 /// Returns the half of this number.
@@ -101,36 +102,36 @@ fn reason_of<'g>(graph: FeatureGraph<'g>, reason: usize, edge: usize) -> Reason<
     }
 }
 
-/// Returns the nodes on which a reason leans: the start of its edge, and the gate for which its half waits.
-fn leans_of(graph: FeatureGraph<'_>, direction: DependencyDirection, reason: usize, edge: usize) -> Vec<usize> {
-    if reason == 0 {
-        return Vec::new();
-    }
-    let edge = &graph.description().edges[edge];
-    match (direction, &edge.weak) {
-        (DependencyDirection::Forward, Some(weak)) if reason == 4 => vec![edge.from, weak.gate],
-        (DependencyDirection::Forward, _) => vec![edge.from],
-        (DependencyDirection::Reverse, _) => vec![edge.to],
-    }
-}
-
 impl<'g> Explained<'g> {
     /// Returns the explanation of these steps (a node, the number of its reason, an edge) and refused offers.
     pub(crate) fn new(
         graph: FeatureGraph<'g>,
         direction: DependencyDirection,
-        steps: Vec<[usize; 3]>,
-        refused: Vec<[usize; 2]>,
+        numbers: Vec<[usize; 3]>,
+        refused: &[[usize; 2]],
     ) -> Self {
-        let members = NodeSet::of(graph.feature_count(), steps.iter().map(|[node, ..]| *node));
+        let members = NodeSet::of(graph.feature_count(), numbers.iter().map(|[node, ..]| *node));
         let told =
             |[node, reason, edge]: &[usize; 3]| (graph.description().id(*node), reason_of(graph, *reason, *edge));
-        let leans = |[node, reason, edge]: &[usize; 3]| (*node, leans_of(graph, direction, *reason, *edge));
         Explained {
             set: FeatureSet::new(graph, members),
-            steps: steps.iter().map(told).collect(),
+            steps: numbers.iter().map(told).collect(),
             refused: refused.iter().map(|[edge, half]| offer_id(graph, *edge, half_of(*half))).collect(),
-            leans: steps.iter().map(leans).collect(),
+            direction,
+            numbers,
+        }
+    }
+
+    /// Returns the nodes on which a reason leans: the start of its edge, and the gate for which its half waits.
+    fn leans(&self, reason: usize, edge: usize) -> Vec<usize> {
+        if reason == 0 {
+            return Vec::new();
+        }
+        let edge = &self.set.graph().description().edges[edge];
+        match (self.direction, &edge.weak) {
+            (DependencyDirection::Forward, Some(weak)) if reason == 4 => vec![edge.from, weak.gate],
+            (DependencyDirection::Forward, _) => vec![edge.from],
+            (DependencyDirection::Reverse, _) => vec![edge.to],
         }
     }
 
@@ -165,9 +166,9 @@ impl<'g> Explained<'g> {
         let mut wanted = vec![false; graph.feature_count()];
         wanted[node] = true;
         let mut why = Vec::new();
-        for ((node, leans), step) in self.leans.iter().zip(&self.steps).rev() {
+        for ([node, reason, edge], step) in self.numbers.iter().zip(&self.steps).rev() {
             if wanted[*node] {
-                leans.iter().for_each(|it| wanted[*it] = true);
+                self.leans(*reason, *edge).into_iter().for_each(|it| wanted[it] = true);
                 why.push(*step);
             }
         }

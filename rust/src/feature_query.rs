@@ -88,7 +88,9 @@ impl<'g> FeatureQuery<'g> {
     ///
     /// Panics if an allocation of the library fails.
     pub fn resolve_with_fn(self, follows: impl Fn(ConditionalLink<'g>) -> bool) -> FeatureSet<'g> {
-        self.resolve_explained(follows).into_set()
+        let graph = *self.graph();
+        let (steps, _) = self.walk(follows);
+        FeatureSet::new(graph, NodeSet::of(graph.feature_count(), steps.iter().map(|[node, ..]| *node)))
     }
 
     /// As `resolve_with_fn`, with the reason for each feature of the set and the refused links.
@@ -97,16 +99,20 @@ impl<'g> FeatureQuery<'g> {
     ///
     /// Panics if an allocation of the library fails.
     pub fn resolve_explained(self, follows: impl Fn(ConditionalLink<'g>) -> bool) -> Explained<'g> {
+        let (steps, refused) = self.walk(follows);
+        Explained::new(*self.graph(), self.direction, steps, &refused)
+    }
+
+    /// Returns the steps (a node, the number of its reason, an edge) and the refused offers (an edge, the number of a half).
+    fn walk(&self, follows: impl Fn(ConditionalLink<'g>) -> bool) -> (Vec<[usize; 3]>, Vec<[usize; 2]>) {
         let graph = *self.graph();
-        let (features, edges) = (graph.feature_count(), graph.link_count());
         let request = self.request().number(2).numbers(answers(graph, follows).into_iter());
-        let size =
-            wire::size_of_numbers(features.saturating_mul(3).saturating_add(edges.saturating_mul(4)).saturating_add(2));
-        let (steps, refused) = graph.ask(calls::resolve, &request, size, |it| {
+        let (of_steps, of_refused) = (graph.feature_count().saturating_mul(3), graph.link_count().saturating_mul(4));
+        let size = wire::size_of_numbers(of_steps.saturating_add(of_refused).saturating_add(2));
+        graph.ask(calls::resolve, &request, size, |it| {
             let steps = it.list(|it| [it.number(), it.number(), it.number()]);
             (steps, it.list(|it| [it.number(), it.number()]))
-        });
-        Explained::new(graph, self.direction, steps, refused)
+        })
     }
 }
 

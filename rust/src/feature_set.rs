@@ -280,3 +280,24 @@ impl fmt::Debug for FeatureSet<'_> {
         f.debug_set().entries(self.packages_with_features(DependencyDirection::Forward)).finish()
     }
 }
+
+#[cfg(test)]
+mod tests {
+    use super::*;
+    use crate::PackageGraph;
+
+    #[test]
+    fn the_order_of_a_set_is_that_of_the_library() {
+        let rows = include_bytes!("../../examples/weak1.rows");
+        let graph = PackageGraph::from_rows(rows.as_slice()).expect("the rows have no fault");
+        let features = graph.feature_graph();
+        for modulus in 1..7 {
+            let members = NodeSet::of(features.feature_count(), (0..features.feature_count()).step_by(modulus));
+            let set = FeatureSet::new(features, members);
+            for direction in [DependencyDirection::Forward, DependencyDirection::Reverse] {
+                let asked = set.ask(calls::order, direction, set.len());
+                assert_eq!(set.nodes_in_order(direction), asked);
+            }
+        }
+    }
+}

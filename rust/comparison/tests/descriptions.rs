@@ -7,7 +7,7 @@ use guppy_features::{
     ConditionalLink, DependencyDirection, DependencyKind, FeatureEdge, FeatureGraphWarning, FeatureId, FeatureSet,
     LinkDeclarations, PackageGraph, PlatformStatus, Reason,
 };
-use std::collections::BTreeSet;
+use std::collections::{BTreeMap, BTreeSet, HashMap};
 
 const GRAPHS: u64 = 2_000;
 
@@ -104,16 +104,19 @@ fn compare_tables(plain: &Graph, graph: &PackageGraph) {
     }
 }
 
-fn compare_offers(plain: &Graph, graph: &PackageGraph) {
+fn compare_offers(plain: &Graph, graph: &PackageGraph, numbers: &HashMap<FeatureId<'_>, usize>) {
     let wanted: Vec<(&Edge, &Link)> =
         plain.edges.iter().flat_map(|edge| edge.offers.iter().map(move |(_, link)| (edge, link))).collect();
     let offers: Vec<_> = graph.feature_graph().offers().collect();
     assert_eq!(offers.len(), wanted.len());
     for (offer, (edge, link)) in offers.iter().zip(wanted) {
-        let ends = (offer.from().feature_id().to_string(), offer.to().feature_id().to_string());
-        assert_eq!(ends, (text(plain, edge.from), text(plain, edge.to)));
+        assert_eq!(ends(offer, numbers), (edge.from, edge.to));
         compare_link(link, offer, graph);
     }
+}
+
+fn ends(link: &ConditionalLink<'_>, numbers: &HashMap<FeatureId<'_>, usize>) -> (usize, usize) {
+    (numbers[&link.from().feature_id()], numbers[&link.to().feature_id()])
 }
 
 #[test]
@@ -145,29 +148,25 @@ fn nodes_warnings_and_defaults_are_those_of_the_rules() {
 #[test]
 fn edges_and_offers_are_those_of_the_rules() {
     for_each_graph(|plain, graph| {
+        let numbers: HashMap<FeatureId<'_>, usize> = all_ids(graph).into_iter().zip(0..).collect();
         let all = graph.feature_graph().resolve_all();
-        let mut edges: Vec<_> = all
+        let edges: BTreeMap<(usize, usize), FeatureEdge> = all
             .links(DependencyDirection::Forward)
-            .map(|(from, to, edge)| (from.to_string(), to.to_string(), edge))
+            .map(|(from, to, edge)| ((numbers[&from], numbers[&to]), edge))
             .collect();
-        let full: Vec<_> = all.conditional_links(DependencyDirection::Forward).collect();
-        assert_eq!(full.len(), edges.iter().filter(|it| it.2.is_conditional()).count());
-        edges.sort_by(|a, b| (&a.0, &a.1).cmp(&(&b.0, &b.1)));
-        let mut wanted: Vec<&Edge> = plain.edges.iter().collect();
-        wanted.sort_by_key(|it| (text(plain, it.from), text(plain, it.to)));
-        assert_eq!(edges.len(), wanted.len());
-        for ((from, to, edge), it) in edges.iter().zip(&wanted) {
-            assert_eq!((from, to), (&text(plain, it.from), &text(plain, it.to)));
-            let link = full.iter().find(|link| {
-                (&link.from().feature_id().to_string(), &link.to().feature_id().to_string()) == (from, to)
-            });
-            assert_eq!(rank_of(*edge, link.map(ConditionalLink::declarations)), it.rank, "{from} {to}");
+        let full: BTreeMap<(usize, usize), ConditionalLink<'_>> =
+            all.conditional_links(DependencyDirection::Forward).map(|link| (ends(&link, &numbers), link)).collect();
+        assert_eq!(edges.len(), plain.edges.len());
+        for it in &plain.edges {
+            let pair = (it.from, it.to);
+            let link = full.get(&pair);
+            assert_eq!(rank_of(edges[&pair], link.map(ConditionalLink::declarations)), it.rank);
             assert_eq!(link.is_some(), it.link.is_some());
             if let (Some(link), Some(content)) = (link, &it.link) {
                 compare_link(content, link, graph);
             }
         }
-        compare_offers(plain, graph);
+        compare_offers(plain, graph, &numbers);
     });
 }
 
