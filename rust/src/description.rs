@@ -147,7 +147,7 @@ impl Description {
     /// Asks the library to describe the graph of `rows`.
     pub(crate) fn of_rows(rows: &[u8]) -> Result<Self, RowsError> {
         // (the size of most answers; of a larger one the call is made again)
-        let size = rows.len().saturating_mul(32).saturating_add(1024);
+        let size = rows.len().saturating_mul(12).saturating_add(1024);
         wire::answer(size, |out| calls::describe(rows, out), read_description)
     }
 
