@@ -90,7 +90,7 @@ pub enum StandardFeatures {
 
 impl StandardFeatures {
     /// All choices.
-    pub const VALUES: [Self; 3] = [StandardFeatures::None, StandardFeatures::Default, StandardFeatures::All];
+    pub const VALUES: &'static [Self; 3] = &[StandardFeatures::None, StandardFeatures::Default, StandardFeatures::All];
 }
 
 impl<'g> FeatureFilter<'g> for StandardFeatures {

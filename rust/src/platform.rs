@@ -46,7 +46,8 @@ pub enum DependencyKind {
 
 impl DependencyKind {
     /// All kinds.
-    pub const VALUES: [Self; 3] = [DependencyKind::Normal, DependencyKind::Build, DependencyKind::Development];
+    pub const VALUES: &'static [Self; 3] =
+        &[DependencyKind::Normal, DependencyKind::Build, DependencyKind::Development];
 }
 
 impl fmt::Display for DependencyKind {

@@ -68,7 +68,7 @@ fn compare_link(plain: &Link, link: &ConditionalLink<'_>, graph: &PackageGraph) 
         Half::Optional => LinkDeclarations::Optional,
     };
     assert_eq!(link.declarations(), declarations);
-    for (kind, status) in DependencyKind::VALUES.into_iter().zip(&plain.statuses) {
+    for (kind, status) in DependencyKind::VALUES.iter().copied().zip(&plain.statuses) {
         let wanted = match status {
             None => PlatformStatus::Always,
             Some(specs) if specs.is_empty() => PlatformStatus::Never,
