@@ -33,8 +33,8 @@ pub enum Reason<'g> {
         /// The feature that the edge leads to.
         to: FeatureId<'g>,
     },
-    /// An accepted link connects it to an earlier feature. Forward, the optional dependency for which the optional half of a
-    /// weak link waits is an earlier feature too.
+    /// An accepted link connects it to an earlier feature. Forward, the optional dependency for which the optional half
+    /// of a weak link waits is an earlier feature too.
     Link {
         /// The feature that the link leads from.
         from: FeatureId<'g>,
@@ -155,8 +155,8 @@ impl<'g> Explained<'g> {
         self.set
     }
 
-    /// Returns the steps on which a feature rests, in order and its own last, or `None` if the set lacks it. The error is
-    /// `UnknownFeatureId`.
+    /// Returns the steps on which a feature rests, in order and its own last, or `None` if the set lacks it. The error
+    /// is `UnknownFeatureId`.
     pub fn why<'a>(&self, id: impl Into<FeatureId<'a>>) -> Result<Option<Vec<(FeatureId<'g>, Reason<'g>)>>, Error> {
         let graph = *self.set.graph();
         let node = graph.node(id.into())?;
@@ -203,9 +203,10 @@ impl<'g> FeatureGraph<'g> {
         Some([edge, half as usize])
     }
 
-    /// Returns whether `steps` explain from `initials`, in this direction, exactly the least set for all links but those of
-    /// `refused`. A step that names a feature or a link which the graph lacks makes the answer `false`; an entry of `refused`
-    /// that does is ignored. The error is `UnknownFeatureId` for the first of `initials` that the graph lacks.
+    /// Returns whether `steps` explain from `initials`, in this direction, exactly the least set for all links but
+    /// those of `refused`. A step that names a feature or a link which the graph lacks makes the answer `false`; an
+    /// entry of `refused` that does is ignored. The error is `UnknownFeatureId` for the first of `initials` that the
+    /// graph lacks.
     ///
     /// # Panics
     ///

@@ -9,8 +9,8 @@ use crate::{
 use guppy_features_calls as calls;
 use std::fmt;
 
-/// The feature graph of a package graph: a feature for each package, each named feature and each optional dependency, and the
-/// edges between them.
+/// The feature graph of a package graph: a feature for each package, each named feature and each optional dependency,
+/// and the edges between them.
 ///
 /// ```
 /// use guppy_features::{FeatureId, PackageGraph, PackageId};
@@ -110,8 +110,8 @@ impl<'g> FeatureGraph<'g> {
         Ok(FeatureList::new(package, labels))
     }
 
-    /// Returns whether the feature is on by default in its package: whether the package's default feature leads to it over
-    /// edges inside the package. The error is `UnknownPackageId` or `UnknownFeatureId`.
+    /// Returns whether the feature is on by default in its package: whether the package's default feature leads to it
+    /// over edges inside the package. The error is `UnknownPackageId` or `UnknownFeatureId`.
     pub fn is_default_feature<'a>(self, id: impl Into<FeatureId<'a>>) -> Result<bool, Error> {
         let id = id.into();
         self.graph.metadata(id.package_id())?;
@@ -135,8 +135,8 @@ impl<'g> FeatureGraph<'g> {
         Ok(self.description().edge(a, b).is_some())
     }
 
-    /// Returns the links of which `FeatureQuery::resolve_with_fn` asks, each once: of a weak edge its halves, of every other
-    /// conditional edge the full link.
+    /// Returns the links of which `FeatureQuery::resolve_with_fn` asks, each once: of a weak edge its halves, of every
+    /// other conditional edge the full link.
     pub fn offers(self) -> impl Iterator<Item = ConditionalLink<'g>> {
         let edges = self.description().edges.iter().enumerate();
         edges.flat_map(move |(number, edge)| edge.offers().map(move |half| ConditionalLink::new(self, number, half)))
@@ -168,8 +168,8 @@ impl<'g> FeatureGraph<'g> {
         Ok(FeatureSet::new(self, self.nodes(ids)?))
     }
 
-    /// Returns the query from these features, in this direction. The error is `UnknownFeatureId` for the first that the graph
-    /// lacks.
+    /// Returns the query from these features, in this direction. The error is `UnknownFeatureId` for the first that the
+    /// graph lacks.
     pub fn query_directed<'a>(
         self,
         ids: impl IntoIterator<Item = impl Into<FeatureId<'a>>>,
@@ -194,7 +194,8 @@ impl<'g> FeatureGraph<'g> {
         self.query_directed(ids, DependencyDirection::Reverse)
     }
 
-    /// Returns the forward query from the features of workspace packages that `filter` accepts. It is asked once for each.
+    /// Returns the forward query from the features of workspace packages that `filter` accepts. It is asked once for
+    /// each.
     pub fn query_workspace(self, mut filter: impl FeatureFilter<'g>) -> FeatureQuery<'g> {
         let members = self.graph.packages().filter(PackageMetadata::in_workspace);
         let nodes = members.flat_map(|package| self.description().nodes_of(package.number));

@@ -77,12 +77,12 @@ impl<'g> FeatureQuery<'g> {
         FeatureSet::new(graph, NodeSet::of(count, nodes))
     }
 
-    /// Returns the least set of features that has the initial ones and is closed under unconditional edges and accepted links.
-    /// Forward, the optional half of a weak link counts only if the set has its optional dependency.
+    /// Returns the least set of features that has the initial ones and is closed under unconditional edges and accepted
+    /// links. Forward, the optional half of a weak link counts only if the set has its optional dependency.
     ///
-    /// `follows` returns whether a link is accepted. It is called once for each link of `FeatureGraph::offers`, whether or not
-    /// the query reaches the link, and its answers are passed to the library as a table. The answers to links that aren't
-    /// reached have no effect. The set is the same in whatever order links are offered.
+    /// `follows` returns whether a link is accepted. It is called once for each link of `FeatureGraph::offers`, whether
+    /// or not the query reaches the link, and its answers are passed to the library as a table. The answers to links
+    /// that aren't reached have no effect. The set is the same in whatever order links are offered.
     ///
     /// # Panics
     ///
@@ -103,7 +103,8 @@ impl<'g> FeatureQuery<'g> {
         Explained::new(*self.graph(), self.direction, steps, &refused)
     }
 
-    /// Returns the steps (a node, the number of its reason, an edge) and the refused offers (an edge, the number of a half).
+    /// Returns the steps (a node, the number of its reason, an edge) and the refused offers (an edge, the number of a
+    /// half).
     fn walk(&self, follows: impl Fn(ConditionalLink<'g>) -> bool) -> (Vec<[usize; 3]>, Vec<[usize; 2]>) {
         let graph = *self.graph();
         let request = self.request().number(2).numbers(answers(graph, follows).into_iter());
@@ -116,8 +117,8 @@ impl<'g> FeatureQuery<'g> {
     }
 }
 
-/// Returns the table of answers: for each edge a number with the bit 1 for the full link or the required half, and the bit 2
-/// for the optional half.
+/// Returns the table of answers: for each edge a number with the bit 1 for the full link or the required half, and the
+/// bit 2 for the optional half.
 fn answers<'g>(graph: FeatureGraph<'g>, follows: impl Fn(ConditionalLink<'g>) -> bool) -> Vec<usize> {
     let mut table = vec![0; graph.link_count()];
     for link in graph.offers() {

@@ -164,8 +164,8 @@ impl<'g> FeatureSet<'g> {
     }
 }
 
-/// Ordered views. Forward, a feature is before those that it turns on, as far as cycles allow; in reverse the order is exactly
-/// backwards.
+/// Ordered views. Forward, a feature is before those that it turns on, as far as cycles allow; in reverse the order is
+/// exactly backwards.
 impl<'g> FeatureSet<'g> {
     /// Returns the nodes of the set, in order.
     fn nodes_in_order(&self, direction: DependencyDirection) -> Vec<usize> {
@@ -211,8 +211,8 @@ impl<'g> FeatureSet<'g> {
         self.graph.ask(call, &request, wire::size_of_numbers(count + 1), |it| it.numbers())
     }
 
-    /// Returns the ids of the roots, in order. Forward these are the features whose component no edge of the set leaves; in
-    /// reverse those whose component none enters.
+    /// Returns the ids of the roots, in order. Forward these are the features whose component no edge of the set
+    /// leaves; in reverse those whose component none enters.
     ///
     /// # Panics
     ///
@@ -234,8 +234,8 @@ impl<'g> FeatureSet<'g> {
         self.ask(calls::roots, direction, self.len()).into_iter().map(move |node| graph.feature(node))
     }
 
-    /// Returns the edges between features of the set, each with the ids of its two features. They are in the order of the
-    /// features at which they start, and in reverse an edge starts at its target.
+    /// Returns the edges between features of the set, each with the ids of its two features. They are in the order of
+    /// the features at which they start, and in reverse an edge starts at its target.
     ///
     /// # Panics
     ///

@@ -1,8 +1,8 @@
 //! guppy's feature graph of a Cargo workspace, whose answers are computed by a proved library.
 //!
-//! The names are those of guppy's module `graph::feature`. Rows of packages, features and dependencies are read from the text
-//! of a row file, and each question is answered by the static library `feature_graph_c`, whose contracts are proved. This
-//! crate passes bytes to it and gives the numbers of its answers names: ids, links, sets.
+//! The names are those of guppy's module `graph::feature`. Rows of packages, features and dependencies are read from
+//! the text of a row file, and each question is answered by the static library `feature_graph_c`, whose contracts are
+//! proved. This crate passes bytes to it and gives the numbers of its answers names: ids, links, sets.
 //!
 //! ```
 //! use guppy_features::{DependencyKind, FeatureId, PackageGraph, PackageId};
@@ -21,15 +21,15 @@
 //!
 //! # One answer for each link
 //!
-//! A visitor here is a function of the link alone: [`FeatureQuery::resolve_with_fn`] calls it once for each link of the graph,
-//! and passes the table of its answers to the library. By a law of the library this is no restriction for such visitors: each
-//! link is offered at most once, and the result is the least closed set in whatever order links are offered. Visitors with
-//! state aren't offered.
+//! A visitor here is a function of the link alone: [`FeatureQuery::resolve_with_fn`] calls it once for each link of the
+//! graph, and passes the table of its answers to the library. By a law of the library this is no restriction for such
+//! visitors: each link is offered at most once, and the result is the least closed set in whatever order links are
+//! offered. Visitors with state aren't offered.
 //!
 //! # Failing allocations
 //!
-//! [`PackageGraph::from_rows`] returns [`RowsError::Memory`] if an allocation of the library fails. Later calls panic in that
-//! case, as their counterparts in guppy have no error for it.
+//! [`PackageGraph::from_rows`] returns [`RowsError::Memory`] if an allocation of the library fails. Later calls panic
+//! in that case, as their counterparts in guppy have no error for it.
 #![forbid(unsafe_code)]
 #![warn(missing_docs)]
 

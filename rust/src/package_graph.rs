@@ -6,7 +6,8 @@ use std::sync::OnceLock;
 
 /// The packages of a row file, and the feature graph over them.
 ///
-/// The library describes the graph once, in `from_rows`. The rows are kept, because each later question passes them again.
+/// The library describes the graph once, in `from_rows`. The rows are kept, because each later question passes them
+/// again.
 ///
 /// ```
 /// use guppy_features::PackageGraph;

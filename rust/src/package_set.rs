@@ -42,8 +42,8 @@ impl<'g> PackageSet<'g> {
         Ok(self.members.contains(self.graph.metadata(package_id)?.number))
     }
 
-    /// Returns the packages in the library's order. Forward, a package is before those on which it depends, as far as cycles
-    /// allow; in reverse the order is exactly backwards.
+    /// Returns the packages in the library's order. Forward, a package is before those on which it depends, as far as
+    /// cycles allow; in reverse the order is exactly backwards.
     pub fn packages(&self, direction: DependencyDirection) -> impl Iterator<Item = PackageMetadata<'g>> + use<'g> {
         let order = self.graph.description.package_order.iter().copied();
         let mut numbers: Vec<usize> = order.filter(|number| self.members.contains(*number)).collect();

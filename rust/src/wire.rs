@@ -65,8 +65,8 @@ fn row_fault(number: usize) -> RowFault {
     }
 }
 
-/// Makes a call with a buffer of `size` bytes, and with a larger one if the answer is longer. Returns what `read` makes of the
-/// answer's content, or the error that the answer names.
+/// Makes a call with a buffer of `size` bytes, and with a larger one if the answer is longer. Returns what `read` makes
+/// of the answer's content, or the error that the answer names.
 pub(crate) fn answer<T>(
     size: usize,
     call: impl Fn(&mut [u8]) -> usize,

@@ -1,5 +1,5 @@
-//! The cases of `tests/cases` with row files, which the program `features` runs too: resolves, orders, cycles and faults. Their
-//! expected values are those of a reference model.
+//! The cases of `tests/cases` with row files, which the program `features` runs too: resolves, orders, cycles and
+//! faults. Their expected values are those of a reference model.
 #![forbid(unsafe_code)]
 
 use guppy_features::{DependencyDirection, FeatureGraph, FeatureId, FeatureLabel, PackageGraph, PackageId};
@@ -118,7 +118,8 @@ fn direction_of(word: &str) -> DependencyDirection {
     }
 }
 
-/// Returns the features that are reached, by their numbers: package by package the base, the features, the optional names.
+/// Returns the features that are reached, by their numbers: package by package the base, the features, the optional
+/// names.
 fn resolve(graph: FeatureGraph<'_>, words: &[String]) -> Result<Vec<String>, Box<dyn Error>> {
     let parts: Vec<_> = words[1..].iter().map(|word| parts_of(word)).collect();
     let ids = parts.iter().map(|(package, label)| FeatureId::new(package, label_of(label)));

@@ -2,20 +2,20 @@
 //!
 //! This is the only code of the workspace that isn't safe Rust. Each call is right for these reasons, the same for all:
 //!
-//! - The declarations in the block `extern "C"` have the parameters and the result of the library's exports, in their order:
-//!   a slice crosses as a pointer and a length in bytes. docs/FROM_RUST.md lists them.
-//! - A slice of Rust has a pointer that isn't null, also if it is empty, and is valid for its length. `rows` and `request` are
-//!   shared and stay unchanged during the call. `out` is a `&mut` slice, so it overlaps neither of them, and all of its bytes
-//!   are initialised.
-//! - The library reads and writes only these slices and its own memory, which it frees before it returns. It keeps no pointer,
-//!   has no state between calls and starts no thread, so calls from several threads at once are independent. Its contract
-//!   requires nothing of the bytes.
-//! - It takes memory by `malloc`, `realloc` and `free` of the process, which the C library and Rust's default allocator share.
-//!   No block of memory crosses the call in either direction.
+//! - The declarations in the block `extern "C"` have the parameters and the result of the library's exports, in their
+//!   order: a slice crosses as a pointer and a length in bytes, and an allocator as nothing (docs/BINARY_FORM.md).
+//! - A slice of Rust has a pointer that isn't null, also if it is empty, and is valid for its length. `rows` and
+//!   `request` are shared and stay unchanged during the call. `out` is a `&mut` slice, so it overlaps neither of them,
+//!   and all of its bytes are initialised.
+//! - The contracts of the exports require nothing of the bytes.
+//! - The library reads and writes only these slices and its own memory, which it frees before it returns. It keeps no
+//!   pointer, has no state between calls and starts no thread, so calls from several threads are independent.
+//! - It takes memory by `malloc`, `realloc` and `free` of the process. No block of memory crosses the call in either
+//!   direction.
 //! - It never unwinds: proved code has no panic.
 //!
-//! Two conditions are left to the caller, as for the C library: `malloc` and `realloc` are those of one allocator, and no call
-//! is made in a signal handler or in the forked child of a process with threads.
+//! Two conditions are left to the program: `malloc`, `realloc` and `free` are those of one allocator, with the alignment
+//! that C asks for, and no call is made in a signal handler or in the forked child of a process with threads.
 #![deny(unsafe_op_in_unsafe_fn)]
 #![warn(missing_docs)]
 

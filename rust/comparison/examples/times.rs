@@ -1,6 +1,8 @@
-//! Times of a graph and of resolves, through the crate and by the plain implementation:
-//! `cargo run --release --example times FILE.rows`. A resolve is forward from the base of the first package, over all edges and
-//! with each link accepted. A line has a name and the least time of the runs in milliseconds; `RUNS` is their number (5).
+//! Times of a graph and of resolves, through the crate and by the plain implementation.
+//!
+//! `cargo run --release --example times FILE.rows` prints lines with a name and the least time of the runs in
+//! milliseconds; `RUNS` in the environment is their number (5 without it). A resolve is forward from the base of the
+//! first package, over all edges and with each link accepted.
 use comparison::plain::{Graph, least, reach};
 use guppy_features::{FeatureId, PackageGraph};
 use std::time::{Duration, Instant};

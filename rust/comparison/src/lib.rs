@@ -1,7 +1,7 @@
 //! A plain implementation of the feature graph over std, and random row files, for comparisons with the proved library.
 //!
-//! The rules are those of docs/DEFINITIONS.md. Nothing here knows the library or its crate: rows are read, edges are made and
-//! walks are made anew. It is written to be read, and not to be fast.
+//! The rules are those of docs/DEFINITIONS.md. Nothing here knows the library or its crate: rows are read, edges are
+//! made and walks are made anew. It is written to be read, and not to be fast.
 //!
 //! ```
 //! use comparison::plain::{Graph, Label, least};

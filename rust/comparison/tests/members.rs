@@ -1,5 +1,5 @@
-//! Compares the members that the library finds with those of the plain implementation: for random graphs, initial features,
-//! directions and tables of answers.
+//! Compares the members that the library finds with those of the plain implementation: for random graphs, initial
+//! features, directions and tables of answers.
 //!
 //! `COMPARISONS` in the environment is their number (100,000 without it), `SEED` the seed (1 without it).
 #![forbid(unsafe_code)]

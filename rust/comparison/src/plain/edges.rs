@@ -179,7 +179,8 @@ impl<'t> Builder<'t> {
         links.filter(|number| self.tables.links[*number].name == name).collect()
     }
 
-    /// Returns the link over the declarations of package links that are in a part and pass a test, or `None` without one.
+    /// Returns the link over the declarations of package links that are in a part and pass a test, or `None` without
+    /// one.
     fn over(&self, numbers: &[usize], part: Half, passes: impl Fn(&Declaration) -> bool) -> Option<Link> {
         let (mut covered, mut package_links) = (Vec::new(), Vec::new());
         for number in numbers {
@@ -252,7 +253,8 @@ impl<'t> Builder<'t> {
         }
     }
 
-    /// Adds the candidates of an item `name/feature` that lead to the optional dependency and to the feature of its name.
+    /// Adds the candidates of an item `name/feature` that lead to the optional dependency and to the feature of its
+    /// name.
     fn add_dependency(&mut self, package: usize, node: usize, name: &str) {
         let Some(to) = self.node(package, optional(name)) else { return };
         let link = self.over(&self.links_named(package, name), Half::Optional, |_| true);

@@ -3,7 +3,8 @@ use super::edges::{Graph, Half};
 use std::collections::HashMap;
 
 /// Returns for each node whether it is in the least set that has `initials` and is closed under unconditional edges and
-/// accepted offers; forward, an optional half counts only if the set has its gate. `accepts` gets the number of an edge.
+/// accepted offers; forward, an optional half counts only if the set has its gate. `accepts` gets the number of an
+/// edge.
 pub fn least(graph: &Graph, is_forward: bool, initials: &[usize], accepts: impl Fn(usize, Half) -> bool) -> Vec<bool> {
     let mut is_member = vec![false; graph.nodes.len()];
     let mut waiting: HashMap<usize, Vec<usize>> = HashMap::new();
