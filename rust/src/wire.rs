@@ -135,3 +135,57 @@ impl Request {
         &self.bytes
     }
 }
+
+#[cfg(test)]
+mod tests {
+    use super::*;
+    use std::cell::Cell;
+
+    /// Returns a call with this answer.
+    fn call(numbers: &[u64]) -> impl Fn(&mut [u8]) -> usize {
+        let bytes: Vec<u8> = numbers.iter().flat_map(|it| it.to_le_bytes()).collect();
+        move |out| {
+            if let Some(room) = out.get_mut(..bytes.len()) {
+                room.copy_from_slice(&bytes);
+            }
+            bytes.len()
+        }
+    }
+
+    #[test]
+    fn a_longer_answer_is_asked_for_again() {
+        let calls = Cell::new(0);
+        let counted = |out: &mut [u8]| {
+            calls.set(calls.get() + 1);
+            call(&[0, 3, 7, 8, 9])(out)
+        };
+        assert_eq!(answer(0, counted, |it| it.numbers()), Ok(vec![7, 8, 9]));
+        assert_eq!(answer(40, counted, |it| it.numbers()), Ok(vec![7, 8, 9]));
+        assert_eq!(calls.get(), 3);
+    }
+
+    #[test]
+    fn each_status_is_its_error() {
+        let error = |numbers: &[u64]| answer(64, call(numbers), |it| it.number()).unwrap_err();
+        assert_eq!(error(&[1]), RowsError::Memory);
+        assert_eq!(error(&[3]), RowsError::NotText);
+        assert_eq!(error(&[4, 12]), RowsError::Malformed { line: 12 });
+        assert_eq!(error(&[5, 12, 4]), RowsError::Row { line: 12, fault: RowFault::OtherName });
+    }
+
+    #[test]
+    fn another_form_is_a_panic() {
+        for numbers in [&[][..], &[0], &[0, 1, 2], &[2], &[5, 1, 9], &[6]] {
+            let read = || answer(64, call(numbers), |it| it.number());
+            assert!(std::panic::catch_unwind(read).is_err(), "{numbers:?}");
+        }
+    }
+
+    #[test]
+    fn a_request_has_its_parts_in_order() {
+        let request = Request::new(DependencyDirection::Reverse).numbers([5].into_iter()).rows([[1, 2]].into_iter());
+        let numbers: Vec<u64> =
+            request.bytes().chunks(8).map(|it| u64::from_le_bytes(it.try_into().expect("eight bytes"))).collect();
+        assert_eq!(numbers, [1, 1, 5, 1, 1, 2]);
+    }
+}
