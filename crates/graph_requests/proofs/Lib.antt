@@ -1,0 +1,3 @@
+pub mod SetLemmas
+pub mod ChoiceWalks
+pub mod StepLemmas

@@ -1,0 +1,4 @@
+pub mod Requests
+pub mod Choices
+pub mod Contents
+pub mod Answers
