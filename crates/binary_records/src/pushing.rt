@@ -48,7 +48,6 @@ pub trait Entries {
 }
 
 /// Appends a list.
-#[tactic(auto, using(crate::proofs::EntryLemmas::entry_next))]
 pub fn push_list<E: Entries>(bytes: &mut Vec<u8>, list: &E) -> Result<(), AllocError>
     ensures { OnOk result (bytes.new.items ≡ bytes.old.items ++ listed (E.entries list.now)) }
 {

@@ -24,10 +24,12 @@ struct FirstNodes<'a> {
 impl Entries for FirstNodes<'_> {
     ghost entries = { λ first. map number first.built.now.firsts };
 
+    #[tactic(auto, using(crate::proofs::NodeLemmas::first_records))]
     fn count(&self) -> usize {
         self.graph.package_count()
     }
 
+    #[tactic(auto, using(crate::proofs::EntryLemmas::entry_of, crate::proofs::NodeLemmas::first_count))]
     fn push(&self, at: usize, bytes: &mut Vec<u8>) -> Result<(), AllocError> {
         push_number(bytes, self.built.first_node(at))
     }
@@ -44,10 +46,12 @@ struct Defaults<'a> {
 impl Entries for Defaults<'_> {
     ghost entries = { λ defaults. map flag defaults.built.now.defaults };
 
+    #[tactic(auto, using(crate::proofs::NodeLemmas::mark_records))]
     fn count(&self) -> usize {
         self.built.node_count()
     }
 
+    #[tactic(auto, using(crate::proofs::NodeLemmas::mark_at, crate::proofs::NodeLemmas::mark_records))]
     fn push(&self, at: usize, bytes: &mut Vec<u8>) -> Result<(), AllocError> {
         push_flag(bytes, self.built.is_default(at))
     }

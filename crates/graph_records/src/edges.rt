@@ -28,6 +28,7 @@ impl Entries for Specs<'_> {
         self.0.len()
     }
 
+    #[tactic(auto, using(crate::proofs::EntryLemmas::entry_of))]
     fn push(&self, at: usize, bytes: &mut Vec<u8>) -> Result<(), AllocError> {
         push_text(bytes, self.0[at].text())
     }
@@ -141,6 +142,7 @@ impl Entries for Edges<'_> {
         self.0.edge_count()
     }
 
+    #[tactic(auto, using(crate::proofs::EntryLemmas::entry_of))]
     fn push(&self, at: usize, bytes: &mut Vec<u8>) -> Result<(), AllocError> {
         push_edge(bytes, self.0, at)
     }
@@ -157,6 +159,7 @@ impl Entries for WeakLinks<'_> {
         self.0.len()
     }
 
+    #[tactic(auto, using(crate::proofs::EntryLemmas::entry_of))]
     fn push(&self, at: usize, bytes: &mut Vec<u8>) -> Result<(), AllocError> {
         let Some((link, gate)) = self.0.get_index(at) else {
             unreachable!()
@@ -201,6 +204,7 @@ impl Entries for Warnings<'_> {
         self.0.len()
     }
 
+    #[tactic(auto, using(crate::proofs::EntryLemmas::entry_of))]
     fn push(&self, at: usize, bytes: &mut Vec<u8>) -> Result<(), AllocError> {
         push_warning(bytes, &self.0[at])
     }

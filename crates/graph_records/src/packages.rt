@@ -25,6 +25,7 @@ impl Entries for Items<'_> {
         self.0.item_count()
     }
 
+    #[tactic(auto, using(crate::proofs::EntryLemmas::entry_of))]
     fn push(&self, at: usize, bytes: &mut Vec<u8>) -> Result<(), AllocError> {
         push_text(bytes, self.0.item(at))
     }
@@ -49,6 +50,7 @@ impl Entries for Features<'_> {
         self.0.len()
     }
 
+    #[tactic(auto, using(crate::proofs::EntryLemmas::entry_of))]
     fn push(&self, at: usize, bytes: &mut Vec<u8>) -> Result<(), AllocError> {
         push_feature(bytes, &self.0[at])
     }
@@ -65,6 +67,7 @@ impl Entries for Names<'_> {
         self.0.len()
     }
 
+    #[tactic(auto, using(crate::proofs::EntryLemmas::entry_of))]
     fn push(&self, at: usize, bytes: &mut Vec<u8>) -> Result<(), AllocError> {
         push_text(bytes, self.0[at].as_str())
     }
@@ -91,6 +94,7 @@ impl Entries for Packages<'_> {
         self.0.package_count()
     }
 
+    #[tactic(auto, using(crate::proofs::EntryLemmas::entry_of))]
     fn push(&self, at: usize, bytes: &mut Vec<u8>) -> Result<(), AllocError> {
         push_package(bytes, self.0.package(at))
     }
@@ -134,12 +138,14 @@ impl Entries for ListedFeatures<'_> {
         self.0.feature_count()
     }
 
+    #[tactic(auto, using(crate::proofs::EntryLemmas::entry_of))]
     fn push(&self, at: usize, bytes: &mut Vec<u8>) -> Result<(), AllocError> {
         push_text(bytes, self.0.feature(at))
     }
 }
 
 /// Appends a declaration.
+#[tactic(auto, using(crate::proofs::PlatformLemmas::platform_is))]
 fn push_declaration(bytes: &mut Vec<u8>, declaration: &Declaration) -> Result<(), AllocError>
     ensures { OnOk result (bytes.new.items ≡ bytes.old.items ++ declaration_record (declared declaration.now)) }
 {
@@ -161,6 +167,7 @@ impl Entries for Declarations<'_> {
         self.0.len()
     }
 
+    #[tactic(auto, using(crate::proofs::EntryLemmas::entry_of))]
     fn push(&self, at: usize, bytes: &mut Vec<u8>) -> Result<(), AllocError> {
         push_declaration(bytes, &self.0[at])
     }
@@ -187,6 +194,7 @@ impl Entries for Links<'_> {
         self.0.link_count()
     }
 
+    #[tactic(auto, using(crate::proofs::EntryLemmas::entry_of))]
     fn push(&self, at: usize, bytes: &mut Vec<u8>) -> Result<(), AllocError> {
         push_link(bytes, self.0.link(at))
     }
