@@ -2,6 +2,7 @@
 ghost use Rattle.std.specs.Prelude.{◌≡◌, ◌++◌, ℕ, List, OnOk, map};
 ghost use Rattle.binary_records.specs.Records.{flag, list, number};
 ghost use Rattle.feature_core.specs.Built.{IsBuilt};
+ghost use Rattle.feature_core.specs.BuiltOnce.{is_built-prop};
 ghost use Rattle.graph_records.specs.Descriptions.{Describes};
 ghost use Rattle.graph_records.specs.Edges.{edge_record, warning_record, weak_record};
 ghost use Rattle.graph_records.specs.Packages.{link_record, package_record};
@@ -18,7 +19,7 @@ use std::alloc::{AllocError, Global};
 struct FirstNodes<'a> {
     graph: &'a PackageGraph,
     built: &'a FeatureGraphData,
-    ghost built_from: { IsBuilt graph.now built.now },
+    ghost is_built: { IsBuilt graph.now built.now } by { is_built-prop graph.now built.now },
 }
 
 impl Entries for FirstNodes<'_> {
@@ -40,7 +41,7 @@ impl Entries for FirstNodes<'_> {
 struct Defaults<'a> {
     graph: &'a PackageGraph,
     built: &'a FeatureGraphData,
-    ghost built_from: { IsBuilt graph.now built.now },
+    ghost is_built: { IsBuilt graph.now built.now } by { is_built-prop graph.now built.now },
 }
 
 impl Entries for Defaults<'_> {

@@ -74,13 +74,13 @@ impl Entries for Names<'_> {
 }
 
 /// Appends a package.
-fn push_package(bytes: &mut Vec<u8>, package: PackageMetadata<'_>) -> Result<(), AllocError>
-    ensures { OnOk result (bytes.new.items ≡ bytes.old.items ++ package_record (package_table_of package.entry)) }
+fn push_package(bytes: &mut Vec<u8>, metadata: PackageMetadata<'_>) -> Result<(), AllocError>
+    ensures { OnOk result (bytes.new.items ≡ bytes.old.items ++ package_record (package_table_of metadata.entry)) }
 {
-    push_text(bytes, package.id().repr())?;
-    push_flag(bytes, package.in_workspace())?;
-    push_list(bytes, &Features(package.named_features()))?;
-    push_list(bytes, &Names(package.optional_deps()))
+    push_text(bytes, metadata.id().repr())?;
+    push_flag(bytes, metadata.in_workspace())?;
+    push_list(bytes, &Features(metadata.named_features()))?;
+    push_list(bytes, &Names(metadata.optional_deps()))
 }
 
 /// The packages of a graph.

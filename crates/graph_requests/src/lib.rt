@@ -4,7 +4,7 @@
 mod answers;
 mod checking;
 mod choice;
-mod cycles;
+mod components;
 mod requests;
 mod sets;
 mod steps;
@@ -13,6 +13,6 @@ mod walking;
 
 pub use answers::{broken, status};
 pub use checking::check;
-pub use cycles::cycles;
+pub use components::cycles;
 pub use views::{links, order, roots};
 pub use walking::{reach, resolve};
