@@ -80,8 +80,11 @@ pub record WalkRequest : Type 0 where
   pub initials : List ℕ
   pub choice : Choice
 
+abbrev pub walk_request : DependencyDirection → List ℕ → Choice → WalkRequest
+walk_request direction initials choice = record { direction = direction; initials = initials; choice = choice }
+
 abbrev pub walk_in : ℕ → ℕ → List ℕ → Option WalkRequest
-walk_in nodes edges ws = option_and_then (λ s. option_map (λ choice. record { direction = s.0; initials = s.1.0; choice = choice }) (choice_in edges s.1.1)) (start_in nodes ws)
+walk_in nodes edges ws = option_and_then (λ s. option_map (walk_request s.0 s.1.0) (choice_in edges s.1.1)) (start_in nodes ws)
 
 -- `count` steps, three numbers each, and the numbers after them.
 abbrev pub steps_in : ℕ → List ℕ → Option (List Step × List ℕ)
@@ -114,6 +117,8 @@ pub record CheckRequest : Type 0 where
 abbrev pub lists_in : List ℕ → Option (List Step × List (ℕ × Half))
 lists_in ws = option_and_then (λ steps. option_and_then (λ refused. at_end (steps.0, refused.0) refused.1) (after_count offers_in steps.1)) (after_count steps_in ws)
 
+abbrev pub check_request : DependencyDirection → List ℕ → List Step × List (ℕ × Half) → CheckRequest
+check_request direction initials lists = record { direction = direction; initials = initials; steps = lists.0; refused = lists.1 }
+
 abbrev pub check_in : ℕ → List ℕ → Option CheckRequest
-check_in nodes ws =
-    option_and_then (λ s. option_map (λ lists. record { direction = s.0; initials = s.1.0; steps = lists.0; refused = lists.1 }) (lists_in s.1.1)) (start_in nodes ws)
+check_in nodes ws = option_and_then (λ s. option_map (check_request s.0 s.1.0) (lists_in s.1.1)) (start_in nodes ws)

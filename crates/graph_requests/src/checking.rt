@@ -50,7 +50,7 @@ fn checked(
     lists: &(Vec<Step>, Vec<(usize, Half)>),
 ) -> Result<Vec<u8>, AllocError>
     requires { IsTrue (spec.are_below (length built.now.packages) initials.now) }
-    ensures { IfOk result (λ answer. Has (Checked built.now (record { direction = direction; initials = initials.now; steps = lists.now.0.items; refused = lists.now.1.items })) answer.items) }
+    ensures { IfOk result (λ answer. Has (Checked built.now (spec.check_request direction initials.now (lists.now.0.items, lists.now.1.items))) answer.items) }
 {
     let set = set_of(alloc, built.node_count(), initials)?;
     match check_exact_steps(alloc, built, direction, &set, &lists.0, &lists.1) {

@@ -5,6 +5,7 @@ mod answers;
 mod checking;
 mod choice;
 mod components;
+pub mod laws;
 mod requests;
 mod sets;
 mod steps;

@@ -31,7 +31,7 @@ fn walk_in<'a>(
     nodes: usize,
     edges: usize,
 ) -> Option<(DependencyDirection, &'a [usize], Choice<'a>)>
-    ensures request { option_map (λ q. record { direction = q.0; initials = q.1.now; choice = choice_of q.2 }) result ≡ spec.walk_in nodes edges words.now }
+    ensures request { option_map (λ q. spec.walk_request q.0 q.1.now (choice_of q.2)) result ≡ spec.walk_in nodes edges words.now }
     ensures nodes { IfSome result (λ q. IsTrue (spec.are_below nodes q.1.now)) }
 {
     let (direction, initials, rest) = start_in(words, nodes)?;
@@ -80,7 +80,7 @@ fn walked(
     choice: Choice<'_>,
 ) -> Result<Vec<u8>, AllocError>
     requires { IsTrue (spec.are_below (length built.now.packages) initials.now) }
-    ensures { IfOk result (λ answer. Has (Walked built.now (record { direction = direction; initials = initials.now; choice = choice_of choice.entry })) answer.items) }
+    ensures { IfOk result (λ answer. Has (Walked built.now (spec.walk_request direction initials.now (choice_of choice.entry))) answer.items) }
 {
     let set = set_of(alloc, built.node_count(), initials)?;
     let (steps, refused) = walk(alloc, built, direction, &set, choice)?;
