@@ -1,3 +1,2 @@
 pub mod PlatformLemmas
 pub mod NodeLemmas
-pub use Rattle.binary_records.proofs.EntryLemmas as EntryLemmas

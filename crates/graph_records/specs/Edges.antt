@@ -42,5 +42,5 @@ abbrev pub weak_record : ℕ × ℕ → List ℕ
 weak_record weak = number weak.0 ++ number weak.1
 
 abbrev pub warning_record : Warning → List ℕ
-warning_record (missing_feature id name) = number 0 ++ text id ++ text name
-warning_record (self_loop id name) = number 1 ++ text id ++ text name
+warning_record (missing_feature id name) = number 0 ++ (text id ++ text name)
+warning_record (self_loop id name) = number 1 ++ (text id ++ text name)

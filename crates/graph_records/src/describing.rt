@@ -30,7 +30,7 @@ impl Entries for FirstNodes<'_> {
         self.graph.package_count()
     }
 
-    #[tactic(auto, using(crate::proofs::EntryLemmas::entry_of, crate::proofs::NodeLemmas::first_count))]
+    #[tactic(auto, using(binary_records::proofs::EntryLemmas::entry_of, crate::proofs::NodeLemmas::first_count))]
     fn push(&self, at: usize, bytes: &mut Vec<u8>) -> Result<(), AllocError> {
         push_number(bytes, self.built.first_node(at))
     }

@@ -1,5 +1,5 @@
 //! The edges of a feature graph as bytes, its weak links, its warnings and its default features.
-ghost use Rattle.std.specs.Prelude.{◌≡◌, ◌++◌, ◌<◌, ℕ, OnOk, Some, length, map, slice_get};
+ghost use Rattle.std.specs.Prelude.{◌≡◌, ◌++◌, ◌<◌, ℕ, OnOk, Some, length, map, slice_get, string_bytes};
 ghost use Rattle.binary_records.specs.Records.{number, optional, text};
 ghost use Rattle.guppy_packages.specs.Platform.{spec_text, status_of};
 ghost use Rattle.feature_links.specs.Facts.{EdgeFacts, weak_edge};
@@ -13,7 +13,7 @@ use feature_core::{
     WeakSlashImpl,
 };
 use feature_labels::LinkDeclarations;
-use guppy_packages::{PlatformStatus, Spec};
+use guppy_packages::{PackageId, PlatformStatus, Spec};
 use indexmap::IndexMap;
 use std::alloc::AllocError;
 
@@ -28,7 +28,7 @@ impl Entries for Specs<'_> {
         self.0.len()
     }
 
-    #[tactic(auto, using(crate::proofs::EntryLemmas::entry_of))]
+    #[tactic(auto, using(binary_records::proofs::EntryLemmas::entry_of))]
     fn push(&self, at: usize, bytes: &mut Vec<u8>) -> Result<(), AllocError> {
         push_text(bytes, self.0[at].text())
     }
@@ -142,7 +142,7 @@ impl Entries for Edges<'_> {
         self.0.edge_count()
     }
 
-    #[tactic(auto, using(crate::proofs::EntryLemmas::entry_of))]
+    #[tactic(auto, using(binary_records::proofs::EntryLemmas::entry_of))]
     fn push(&self, at: usize, bytes: &mut Vec<u8>) -> Result<(), AllocError> {
         push_edge(bytes, self.0, at)
     }
@@ -159,7 +159,7 @@ impl Entries for WeakLinks<'_> {
         self.0.len()
     }
 
-    #[tactic(auto, using(crate::proofs::EntryLemmas::entry_of))]
+    #[tactic(auto, using(binary_records::proofs::EntryLemmas::entry_of))]
     fn push(&self, at: usize, bytes: &mut Vec<u8>) -> Result<(), AllocError> {
         let Some((link, gate)) = self.0.get_index(at) else {
             unreachable!()
@@ -167,6 +167,14 @@ impl Entries for WeakLinks<'_> {
         push_number(bytes, *link)?;
         push_number(bytes, *gate)
     }
+}
+
+/// Appends a package's id and the name of a feature.
+fn push_feature(bytes: &mut Vec<u8>, id: &PackageId, name: &String) -> Result<(), AllocError>
+    ensures { OnOk result (bytes.new.items ≡ bytes.old.items ++ (text id.now ++ text (string_bytes name.now))) }
+{
+    push_text(bytes, id.repr())?;
+    push_text(bytes, name.as_str())
 }
 
 /// Appends a warning.
@@ -179,16 +187,14 @@ fn push_warning(bytes: &mut Vec<u8>, warning: &FeatureGraphWarning) -> Result<()
             feature_name,
         } => {
             push_number(bytes, 0)?;
-            push_text(bytes, package_id.repr())?;
-            push_text(bytes, feature_name.as_str())
+            push_feature(bytes, package_id, feature_name)
         }
         FeatureGraphWarning::SelfLoop {
             package_id,
             feature_name,
         } => {
             push_number(bytes, 1)?;
-            push_text(bytes, package_id.repr())?;
-            push_text(bytes, feature_name.as_str())
+            push_feature(bytes, package_id, feature_name)
         }
     }
 }
@@ -204,7 +210,7 @@ impl Entries for Warnings<'_> {
         self.0.len()
     }
 
-    #[tactic(auto, using(crate::proofs::EntryLemmas::entry_of))]
+    #[tactic(auto, using(binary_records::proofs::EntryLemmas::entry_of))]
     fn push(&self, at: usize, bytes: &mut Vec<u8>) -> Result<(), AllocError> {
         push_warning(bytes, &self.0[at])
     }

@@ -25,7 +25,7 @@ impl Entries for Items<'_> {
         self.0.item_count()
     }
 
-    #[tactic(auto, using(crate::proofs::EntryLemmas::entry_of))]
+    #[tactic(auto, using(binary_records::proofs::EntryLemmas::entry_of))]
     fn push(&self, at: usize, bytes: &mut Vec<u8>) -> Result<(), AllocError> {
         push_text(bytes, self.0.item(at))
     }
@@ -50,7 +50,7 @@ impl Entries for Features<'_> {
         self.0.len()
     }
 
-    #[tactic(auto, using(crate::proofs::EntryLemmas::entry_of))]
+    #[tactic(auto, using(binary_records::proofs::EntryLemmas::entry_of))]
     fn push(&self, at: usize, bytes: &mut Vec<u8>) -> Result<(), AllocError> {
         push_feature(bytes, &self.0[at])
     }
@@ -67,7 +67,7 @@ impl Entries for Names<'_> {
         self.0.len()
     }
 
-    #[tactic(auto, using(crate::proofs::EntryLemmas::entry_of))]
+    #[tactic(auto, using(binary_records::proofs::EntryLemmas::entry_of))]
     fn push(&self, at: usize, bytes: &mut Vec<u8>) -> Result<(), AllocError> {
         push_text(bytes, self.0[at].as_str())
     }
@@ -94,7 +94,7 @@ impl Entries for Packages<'_> {
         self.0.package_count()
     }
 
-    #[tactic(auto, using(crate::proofs::EntryLemmas::entry_of))]
+    #[tactic(auto, using(binary_records::proofs::EntryLemmas::entry_of))]
     fn push(&self, at: usize, bytes: &mut Vec<u8>) -> Result<(), AllocError> {
         push_package(bytes, self.0.package(at))
     }
@@ -138,7 +138,7 @@ impl Entries for ListedFeatures<'_> {
         self.0.feature_count()
     }
 
-    #[tactic(auto, using(crate::proofs::EntryLemmas::entry_of))]
+    #[tactic(auto, using(binary_records::proofs::EntryLemmas::entry_of))]
     fn push(&self, at: usize, bytes: &mut Vec<u8>) -> Result<(), AllocError> {
         push_text(bytes, self.0.feature(at))
     }
@@ -167,7 +167,7 @@ impl Entries for Declarations<'_> {
         self.0.len()
     }
 
-    #[tactic(auto, using(crate::proofs::EntryLemmas::entry_of))]
+    #[tactic(auto, using(binary_records::proofs::EntryLemmas::entry_of))]
     fn push(&self, at: usize, bytes: &mut Vec<u8>) -> Result<(), AllocError> {
         push_declaration(bytes, &self.0[at])
     }
@@ -194,7 +194,7 @@ impl Entries for Links<'_> {
         self.0.link_count()
     }
 
-    #[tactic(auto, using(crate::proofs::EntryLemmas::entry_of))]
+    #[tactic(auto, using(binary_records::proofs::EntryLemmas::entry_of))]
     fn push(&self, at: usize, bytes: &mut Vec<u8>) -> Result<(), AllocError> {
         push_link(bytes, self.0.link(at))
     }
