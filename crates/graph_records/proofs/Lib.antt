@@ -1,2 +1,3 @@
 pub mod PlatformLemmas
 pub mod NodeLemmas
+pub mod Pushed

@@ -12,9 +12,8 @@ use Rattle.graph_records.specs.Edges.{edge_record, weak_record, warning_record}
 -- node is on by default; and the numbers of the packages in an order.
 abbrev pub description : Tables → Built → List ℕ → List ℕ
 description t b order =
-    list package_record t.packages ++ list link_record t.links
-    ++ list number b.firsts ++ list edge_record b.edges ++ list weak_record b.weak ++ list warning_record b.warnings ++ list flag b.defaults
-    ++ list number order
+    (list package_record t.packages ++ list link_record t.links) ++ list number b.firsts
+    ++ (list edge_record b.edges ++ list weak_record b.weak ++ list warning_record b.warnings) ++ list flag b.defaults ++ list number order
 
 -- The bytes describe a feature graph, with the packages in the order of their links.
 pub record Describes (t : Tables) (b : Built) (bytes : List ℕ) : Type 0 where

@@ -28,7 +28,6 @@ impl Entries for Specs<'_> {
         self.0.len()
     }
 
-    #[tactic(auto, using(binary_records::proofs::EntryLemmas::entry_of))]
     fn push(&self, at: usize, bytes: &mut Vec<u8>) -> Result<(), AllocError> {
         push_text(bytes, self.0[at].text())
     }
@@ -148,6 +147,14 @@ impl Entries for Edges<'_> {
     }
 }
 
+/// Appends a weak link: its package link and its gate.
+fn push_weak_link(bytes: &mut Vec<u8>, link: usize, gate: usize) -> Result<(), AllocError>
+    ensures { OnOk result (bytes.new.items ≡ bytes.old.items ++ weak_record (link, gate)) }
+{
+    push_number(bytes, link)?;
+    push_number(bytes, gate)
+}
+
 /// Weak links with their gates.
 #[derive(Clone, Copy)]
 pub(crate) struct WeakLinks<'a>(pub(crate) &'a IndexMap<usize, usize>);
@@ -159,13 +166,11 @@ impl Entries for WeakLinks<'_> {
         self.0.len()
     }
 
-    #[tactic(auto, using(binary_records::proofs::EntryLemmas::entry_of))]
     fn push(&self, at: usize, bytes: &mut Vec<u8>) -> Result<(), AllocError> {
         let Some((link, gate)) = self.0.get_index(at) else {
             unreachable!()
         };
-        push_number(bytes, *link)?;
-        push_number(bytes, *gate)
+        push_weak_link(bytes, *link, *gate)
     }
 }
 
@@ -210,7 +215,6 @@ impl Entries for Warnings<'_> {
         self.0.len()
     }
 
-    #[tactic(auto, using(binary_records::proofs::EntryLemmas::entry_of))]
     fn push(&self, at: usize, bytes: &mut Vec<u8>) -> Result<(), AllocError> {
         push_warning(bytes, &self.0[at])
     }

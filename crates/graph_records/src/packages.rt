@@ -50,7 +50,6 @@ impl Entries for Features<'_> {
         self.0.len()
     }
 
-    #[tactic(auto, using(binary_records::proofs::EntryLemmas::entry_of))]
     fn push(&self, at: usize, bytes: &mut Vec<u8>) -> Result<(), AllocError> {
         push_feature(bytes, &self.0[at])
     }
@@ -67,7 +66,6 @@ impl Entries for Names<'_> {
         self.0.len()
     }
 
-    #[tactic(auto, using(binary_records::proofs::EntryLemmas::entry_of))]
     fn push(&self, at: usize, bytes: &mut Vec<u8>) -> Result<(), AllocError> {
         push_text(bytes, self.0[at].as_str())
     }
@@ -167,7 +165,6 @@ impl Entries for Declarations<'_> {
         self.0.len()
     }
 
-    #[tactic(auto, using(binary_records::proofs::EntryLemmas::entry_of))]
     fn push(&self, at: usize, bytes: &mut Vec<u8>) -> Result<(), AllocError> {
         push_declaration(bytes, &self.0[at])
     }
