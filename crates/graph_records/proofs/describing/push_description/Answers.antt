@@ -1,4 +1,4 @@
-use Rattle.std.proofs.Common.{◌≡◌, ◌++◌, ap}
+use Rattle.std.proofs.Common.{◌++◌, ap}
 use Rattle.binary_records.specs.Records.{flag, list, number}
 use Rattle.graph_records.specs.Descriptions.{Describes}
 use Rattle.graph_records.specs.Edges.{edge_record, warning_record, weak_record}
