@@ -60,13 +60,13 @@ reason_back (Offer e Optional) = refl
 pub steps_back : (steps : List Step) (rest : List ℕ) → many_in step_in (length steps) (flat_map step_numbers steps ++ rest) ≡ Some (steps, rest)
 steps_back [] rest = refl
 steps_back (s ∷ steps) rest =
-    ap (λ z. option_and_then (λ x. option_map (λ p. (x.0 ∷ p.0, p.1)) (many_in step_in (length steps) x.1)) (option_map (λ reason. (record { node = s.node; reason = reason }, flat_map step_numbers steps ++ rest)) z)) (reason_back s.reason)
+    ap (λ z. option_and_then {T = Step × List ℕ} (λ x. option_map (λ p. (x.0 ∷ p.0, p.1)) (many_in step_in (length steps) x.1)) (option_map (λ reason. (record { node = s.node; reason = reason }, flat_map step_numbers steps ++ rest)) z)) (reason_back s.reason)
     ∙ ap (option_map (λ p. (s ∷ p.0, p.1))) (steps_back steps rest)
 
 pub offers_back : (offers : List (ℕ × Half)) (rest : List ℕ) → many_in offer_in (length offers) (flat_map offer_numbers offers ++ rest) ≡ Some (offers, rest)
 offers_back [] rest = refl
 offers_back (o ∷ offers) rest =
-    ap (λ z. option_and_then (λ x. option_map (λ p. (x.0 ∷ p.0, p.1)) (many_in offer_in (length offers) x.1)) (option_map (λ half. ((o.0, half), flat_map offer_numbers offers ++ rest)) z)) (half_back o.1)
+    ap (λ z. option_and_then {T = (ℕ × Half) × List ℕ} (λ x. option_map (λ p. (x.0 ∷ p.0, p.1)) (many_in offer_in (length offers) x.1)) (option_map (λ half. ((o.0, half), flat_map offer_numbers offers ++ rest)) z)) (half_back o.1)
     ∙ ap (option_map (λ p. (o ∷ p.0, p.1))) (offers_back offers rest)
 
 pub lists_back : (steps : List Step) (refused : List (ℕ × Half)) → lists_in (list_numbers steps refused) ≡ Some (steps, refused)

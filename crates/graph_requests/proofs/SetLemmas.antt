@@ -21,10 +21,6 @@ pub set_begins : (count : ℕ) (nodes : List ℕ) (set : List Bool) → set ≡ 
 set_begins count nodes set e n =
     ap (λ (s : List Bool). has s n || is_in nodes n) e ∙ ap (λ b. b || is_in nodes n) (none_in count n)
 
--- The rest of a list from an element on.
-pub rest_at : (nodes : List ℕ) (i x : ℕ) → i < length nodes → x ≡ get_or nodes i x → drop i nodes ≡ x ∷ drop (i + 1) nodes
-rest_at nodes i x within is = drop_more nodes i x within ∙ ap (λ y. y ∷ drop (i + 1) nodes) (sym is)
-
 -- A node is inserted.
 pub set_more : (nodes : List ℕ) (i x : ℕ) (old new : List Bool) → drop i nodes ≡ x ∷ drop (i + 1) nodes → ((n : ℕ) → has new n ≡ (has old n || (x == n)))
     → ((n : ℕ) → (has old n || is_in (drop i nodes) n) ≡ is_in nodes n) → (n : ℕ) → (has new n || is_in (drop (i + 1) nodes) n) ≡ is_in nodes n

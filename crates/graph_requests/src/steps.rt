@@ -33,7 +33,7 @@ fn some_steps(
 {
     let mut steps = Vec::new(alloc);
     let mut rest = words;
-    for _at in 0..count {
+    for _ in 0..count {
         let Some((step, tail)) = step_in(rest) else {
             return Ok(None);
         };
@@ -79,7 +79,7 @@ fn some_offers(
 {
     let mut offers = Vec::new(alloc);
     let mut rest = words;
-    for _at in 0..count {
+    for _ in 0..count {
         let Some((offer, tail)) = offer_in(rest) else {
             return Ok(None);
         };

@@ -1,6 +1,7 @@
 use Rattle.std.proofs.Common.{◌≡◌, ◌∙◌, Bool, false, length, ap, arith}
-use Rattle.std.proofs.lemmas.List.{length-replicate, drop_all}
-use Rattle.graph_requests.proofs.SetLemmas.{set_begins, rest_at, set_more, set_ends, below_at}
+use Rattle.std.specs.Prelude.{slice_index}
+use Rattle.std.proofs.lemmas.List.{length-replicate, drop_all, drop_more}
+use Rattle.graph_requests.proofs.SetLemmas.{set_begins, set_more, set_ends, below_at}
 use Rattle.graph_requests.proofs.sets.set_of.Goals as goal
 
 pub loop-at-init : goal.loop-at-init
@@ -13,18 +14,18 @@ loop-at-init c = record {
 pub insert-requires : goal.insert-requires
 insert-requires c =
     let nodes = c.args.nodes.now in
-    let at = rest_at nodes c.loop-at.at c.index-nodes-at.result c.loop-at-test.true c.index-nodes-at.is in
-    let below = below_at c.args.count nodes c.loop-at.at c.index-nodes-at.result at c.loop-at.invariant.below in
+    let at = drop_more nodes c.loop-at.at 0 c.loop-at-test.true in
+    let below = below_at c.args.count nodes c.loop-at.at (slice_index nodes c.loop-at.at) at c.loop-at.invariant.below in
     omega (arith, below.0, c.loop-at.invariant.size)
 
 pub loop-at-preserved : goal.loop-at-preserved
 loop-at-preserved c =
     let nodes = c.args.nodes.now in
-    let at = rest_at nodes c.loop-at.at c.index-nodes-at.result c.loop-at-test.true c.index-nodes-at.is in
+    let at = drop_more nodes c.loop-at.at 0 c.loop-at-test.true in
     record {
       size = c.insert.ensures.size ∙ c.loop-at.invariant.size;
-      below = (below_at c.args.count nodes c.loop-at.at c.index-nodes-at.result at c.loop-at.invariant.below).1;
-      rest = set_more nodes c.loop-at.at c.index-nodes-at.result c.loop-at.set c.insert.new.set at c.insert.ensures.members c.loop-at.invariant.rest;
+      below = (below_at c.args.count nodes c.loop-at.at (slice_index nodes c.loop-at.at) at c.loop-at.invariant.below).1;
+      rest = set_more nodes c.loop-at.at (slice_index nodes c.loop-at.at) c.loop-at.set c.insert.new.set at c.insert.ensures.members c.loop-at.invariant.rest;
     }
 
 pub returns : goal.returns

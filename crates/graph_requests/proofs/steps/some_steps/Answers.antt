@@ -3,17 +3,17 @@ use Rattle.graph_requests.specs.Requests.{many_in, step_in}
 use Rattle.graph_requests.proofs.StepLemmas.{after, after_nothing, many_more, many_none, many_end}
 use Rattle.graph_requests.proofs.steps.some_steps.Goals as goal
 
-pub loop-_at-init : goal.loop-_at-init
-loop-_at-init c = ap (λ z. after z (many_in step_in c.args.count c.args.words.now)) c.new-steps.ensures.items ∙ after_nothing (many_in step_in c.args.count c.args.words.now)
+pub loop-init : goal.loop-init
+loop-init c = ap (λ z. after z (many_in step_in c.args.count c.args.words.now)) c.new-steps.ensures.items ∙ after_nothing (many_in step_in c.args.count c.args.words.now)
 
 pub returns-in_default : goal.returns-in_default
 returns-in_default c =
-    many_none step_in c.loop-_at.steps.items (c.args.count - (c.loop-_at._at + 1)) (c.args.count - c.loop-_at._at) c.loop-_at.rest.now _ (omega (arith, c.loop-_at-test.true)) (search rules) c.loop-_at.invariant
+    many_none step_in c.loop.steps.items (c.args.count - (c.loop.counter + 1)) (c.args.count - c.loop.counter) c.loop.rest.now _ (omega (arith, c.loop-test.true)) (search rules) c.loop.invariant
 
-pub loop-_at-preserved : goal.loop-_at-preserved
-loop-_at-preserved c =
-    many_more step_in c.loop-_at.steps.items c.push.new.self.items (c.args.count - (c.loop-_at._at + 1)) (c.args.count - c.loop-_at._at) c.in-Some.step c.loop-_at.rest.now c.in-Some.tail.now _
-    (omega (arith, c.loop-_at-test.true)) (sym c.in-Some.ensures) c.in_ok-push.ensures.items c.loop-_at.invariant
+pub loop-preserved : goal.loop-preserved
+loop-preserved c =
+    many_more step_in c.loop.steps.items c.push.new.self.items (c.args.count - (c.loop.counter + 1)) (c.args.count - c.loop.counter) c.in-Some.step c.loop.rest.now c.in-Some.tail.now _
+    (omega (arith, c.loop-test.true)) (sym c.in-Some.ensures) c.in_ok-push.ensures.items c.loop.invariant
 
 pub returns : goal.returns
-returns c = many_end step_in c.loop-_at.steps.items (c.args.count - c.loop-_at._at) c.loop-_at.rest.now _ (omega (arith, c.loop-_at-test.false)) c.loop-_at.invariant
+returns c = many_end step_in c.loop.steps.items (c.args.count - c.loop.counter) c.loop.rest.now _ (omega (arith, c.loop-test.false)) c.loop.invariant

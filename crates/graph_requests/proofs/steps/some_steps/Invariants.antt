@@ -4,5 +4,5 @@ use Rattle.graph_requests.proofs.StepLemmas.{after}
 use Rattle.graph_requests.proofs.steps.some_steps.Given as goal
 
 -- The steps so far, and those that are read from the words to come, are all steps.
-abbrev pub invariant-loop-_at : goal.invariant-loop-_at
-invariant-loop-_at l = after l.steps.items (many_in step_in (l.count - l._at) l.rest) ≡ many_in step_in l.count l.words
+abbrev pub invariant-loop : goal.invariant-loop
+invariant-loop l = after l.steps.items (many_in step_in (l.count - l.counter) l.rest) ≡ many_in step_in l.count l.words
