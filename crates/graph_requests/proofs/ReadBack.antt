@@ -1,5 +1,5 @@
 -- Requests that are written as numbers and read.
-use Rattle.std.proofs.Common.{◌≡◌, ℕ, ◌+◌, List, [], ◌∷◌, ◌++◌, zero, suc, true, false, length, take, drop, Option, Some, None, arith, refl, ap, sym, ◌∙◌, length-append, append-nil}
+use Rattle.std.proofs.Common.{◌≡◌, ℕ, List, [], ◌∷◌, ◌++◌, true, length, take, drop, Some, None, arith, refl, ap, sym, ◌∙◌, length-append, append-nil}
 use Rattle.std.specs.Prelude.{IsTrue, nat_le, ◌==◌, ◌&&◌, option_and_then, flat_map, if◌then◌else◌}
 use Rattle.std.specs.Option.{option_map}
 use Rattle.std.proofs.lemmas.Bool.Decides.{nat_tests}
@@ -12,8 +12,8 @@ use Rattle.walk_engine.specs.declared.walks.Step.{Step}
 use Rattle.walk_engine.specs.declared.walks.StepReason.{StepReason}
 use Rattle.walk_engine.specs.declared.walks.StepReason.TheVariants.{Initial, Edge, Offer}
 use Rattle.graph_requests.specs.Contents.{half_number, reason_number, reason_edge}
-use Rattle.graph_requests.specs.Requests.{Choice, refuse, accept, by_edge, are_below, half_in, reason_in, nodes_in, start_in, choice_in, step_in, offer_in, many_in, list_in, at_end, lists_in}
-use Rattle.graph_requests.specs.Written.{IsChoice, direction_number, start_numbers, choice_numbers, step_numbers, offer_numbers, list_numbers}
+use Rattle.graph_requests.specs.Requests.{Choice, refuse, accept, by_edge, are_below, half_in, reason_in, start_in, choice_in, step_in, offer_in, many_in, list_in, at_end, lists_in}
+use Rattle.graph_requests.specs.Written.{IsChoice, start_numbers, choice_numbers, step_numbers, offer_numbers, list_numbers}
 
 taken : (xs rest : List ℕ) → take (length xs) (xs ++ rest) ≡ xs
 taken [] rest = refl

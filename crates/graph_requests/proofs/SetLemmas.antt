@@ -1,7 +1,6 @@
 -- Sets of the nodes in a list.
-use Rattle.std.proofs.Common.{◌≡◌, ℕ, ◌+◌, ◌<◌, Bool, true, false, List, [], ◌∷◌, zero, suc, drop, length, replicate, get_or, arith, refl, ap, sym, subst, ◌∙◌}
+use Rattle.std.proofs.Common.{◌≡◌, ℕ, ◌+◌, ◌<◌, Bool, true, false, List, [], ◌∷◌, zero, suc, drop, replicate, arith, refl, ap, sym, subst, ◌∙◌}
 use Rattle.std.specs.Prelude.{IsTrue, nat_lt, ◌==◌, ◌&&◌, ◌||◌}
-use Rattle.std.proofs.lemmas.List.{drop_more}
 use Rattle.std.proofs.lemmas.Bool.Decides.{nat_tests}
 use Rattle.guppy_support.specs.Bits.{has}
 use Rattle.walk_engine.specs.Walks.{is_in}

@@ -1,4 +1,4 @@
-use Rattle.std.proofs.Common.{◌≡◌, ◌∙◌, Bool, false, length, ap, arith}
+use Rattle.std.proofs.Common.{◌∙◌, false, length, ap, arith}
 use Rattle.std.specs.Prelude.{slice_index}
 use Rattle.std.proofs.lemmas.List.{length-replicate, drop_all, drop_more}
 use Rattle.graph_requests.proofs.SetLemmas.{set_begins, set_more, set_ends, below_at}

@@ -1,10 +1,13 @@
-use Rattle.std.proofs.Common.{rules, ◌-◌, ◌+◌, ◌∙◌, ap, sym, arith}
+use Rattle.std.proofs.Common.{rules, ◌≡◌, ◌-◌, ◌+◌, ◌∙◌, ap, sym, arith}
 use Rattle.graph_requests.specs.Requests.{many_in, offer_in}
 use Rattle.graph_requests.proofs.StepLemmas.{after, after_nothing, many_more, many_none, many_end}
 use Rattle.graph_requests.proofs.steps.some_offers.Goals as goal
 
 pub loop-init : goal.loop-init
-loop-init c = ap (λ z. after z (many_in offer_in c.args.count c.args.words.now)) c.new-offers.ensures.items ∙ after_nothing (many_in offer_in c.args.count c.args.words.now)
+loop-init c =
+    let count : c.args.count - 0 ≡ c.args.count = omega arith in
+    ap (λ z. after z (many_in offer_in (c.args.count - 0) c.args.words.now)) c.new-offers.ensures.items ∙ after_nothing (many_in offer_in (c.args.count - 0) c.args.words.now)
+    ∙ ap (λ n. many_in offer_in n c.args.words.now) count
 
 pub returns-in_default : goal.returns-in_default
 returns-in_default c =

@@ -1,4 +1,4 @@
-use Rattle.std.proofs.Common.{◌≡◌, ap, subst}
+use Rattle.std.proofs.Common.{ap, subst}
 use Rattle.guppy_support.specs.Bits.{has}
 use Rattle.walk_engine.specs.Explanations.{IsExplainedWalk}
 use Rattle.graph_requests.specs.Choices.{choice_of}
