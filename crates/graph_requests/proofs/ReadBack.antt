@@ -1,5 +1,5 @@
 -- Requests that are written as numbers and read.
-use Rattle.std.proofs.Common.{◌≡◌, ℕ, ◌+◌, List, [], ◌∷◌, ◌++◌, zero, suc, true, false, length, take, drop, Option, Some, None, arith, refl, ap, sym, ◌∙◌, length-append, append-nil}
+use Rattle.std.proofs.Common.{◌≡◌, ℕ, List, [], ◌∷◌, ◌++◌, true, length, take, drop, Some, None, arith, refl, ap, sym, ◌∙◌, length-append, append-nil}
 use Rattle.std.specs.Prelude.{IsTrue, nat_le, ◌==◌, ◌&&◌, option_and_then, flat_map, if◌then◌else◌}
 use Rattle.std.specs.Option.{option_map}
 use Rattle.std.proofs.lemmas.Bool.Decides.{nat_tests}
@@ -12,8 +12,8 @@ use Rattle.walk_engine.specs.declared.walks.Step.{Step}
 use Rattle.walk_engine.specs.declared.walks.StepReason.{StepReason}
 use Rattle.walk_engine.specs.declared.walks.StepReason.TheVariants.{Initial, Edge, Offer}
 use Rattle.graph_requests.specs.Contents.{half_number, reason_number, reason_edge}
-use Rattle.graph_requests.specs.Requests.{Choice, refuse, accept, by_edge, are_below, half_in, reason_in, nodes_in, start_in, choice_in, steps_in, offers_in, after_count, at_end, lists_in}
-use Rattle.graph_requests.specs.Written.{IsChoice, direction_number, start_numbers, choice_numbers, step_numbers, offer_numbers, list_numbers}
+use Rattle.graph_requests.specs.Requests.{Choice, refuse, accept, by_edge, are_below, half_in, reason_in, start_in, choice_in, step_in, offer_in, many_in, list_in, at_end, lists_in}
+use Rattle.graph_requests.specs.Written.{IsChoice, start_numbers, choice_numbers, step_numbers, offer_numbers, list_numbers}
 
 taken : (xs rest : List ℕ) → take (length xs) (xs ++ rest) ≡ xs
 taken [] rest = refl
@@ -57,19 +57,19 @@ reason_back (Offer e Full) = refl
 reason_back (Offer e Required) = refl
 reason_back (Offer e Optional) = refl
 
-pub steps_back : (steps : List Step) (rest : List ℕ) → steps_in (length steps) (flat_map step_numbers steps ++ rest) ≡ Some (steps, rest)
+pub steps_back : (steps : List Step) (rest : List ℕ) → many_in step_in (length steps) (flat_map step_numbers steps ++ rest) ≡ Some (steps, rest)
 steps_back [] rest = refl
 steps_back (s ∷ steps) rest =
-    ap (option_and_then (λ reason. option_map (λ p. ((record { node = s.node; reason = reason }) ∷ p.0, p.1)) (steps_in (length steps) (flat_map step_numbers steps ++ rest)))) (reason_back s.reason)
+    ap (λ z. option_and_then {T = Step × List ℕ} (λ x. option_map (λ p. (x.0 ∷ p.0, p.1)) (many_in step_in (length steps) x.1)) (option_map (λ reason. (record { node = s.node; reason = reason }, flat_map step_numbers steps ++ rest)) z)) (reason_back s.reason)
     ∙ ap (option_map (λ p. (s ∷ p.0, p.1))) (steps_back steps rest)
 
-pub offers_back : (offers : List (ℕ × Half)) (rest : List ℕ) → offers_in (length offers) (flat_map offer_numbers offers ++ rest) ≡ Some (offers, rest)
+pub offers_back : (offers : List (ℕ × Half)) (rest : List ℕ) → many_in offer_in (length offers) (flat_map offer_numbers offers ++ rest) ≡ Some (offers, rest)
 offers_back [] rest = refl
 offers_back (o ∷ offers) rest =
-    ap (option_and_then (λ half. option_map (λ p. ((o.0, half) ∷ p.0, p.1)) (offers_in (length offers) (flat_map offer_numbers offers ++ rest)))) (half_back o.1)
+    ap (λ z. option_and_then {T = (ℕ × Half) × List ℕ} (λ x. option_map (λ p. (x.0 ∷ p.0, p.1)) (many_in offer_in (length offers) x.1)) (option_map (λ half. ((o.0, half), flat_map offer_numbers offers ++ rest)) z)) (half_back o.1)
     ∙ ap (option_map (λ p. (o ∷ p.0, p.1))) (offers_back offers rest)
 
 pub lists_back : (steps : List Step) (refused : List (ℕ × Half)) → lists_in (list_numbers steps refused) ≡ Some (steps, refused)
 lists_back steps refused =
-    ap (option_and_then (λ steps. option_and_then (λ refused. at_end (steps.0, refused.0) refused.1) (after_count offers_in steps.1))) (steps_back steps (length refused ∷ flat_map offer_numbers refused))
-    ∙ ap (option_and_then (λ refused. at_end (steps, refused.0) refused.1)) (ap (offers_in (length refused)) (sym (append-nil (flat_map offer_numbers refused))) ∙ offers_back refused [])
+    ap (option_and_then (λ steps. option_and_then (λ refused. at_end (steps.0, refused.0) refused.1) (list_in offer_in steps.1))) (steps_back steps (length refused ∷ flat_map offer_numbers refused))
+    ∙ ap (option_and_then (λ refused. at_end (steps, refused.0) refused.1)) (ap (many_in offer_in (length refused)) (sym (append-nil (flat_map offer_numbers refused))) ∙ offers_back refused [])

@@ -1,7 +1,6 @@
 -- Sets of the nodes in a list.
-use Rattle.std.proofs.Common.{◌≡◌, ℕ, ◌+◌, ◌<◌, Bool, true, false, List, [], ◌∷◌, zero, suc, drop, length, replicate, get_or, arith, refl, ap, sym, subst, ◌∙◌}
+use Rattle.std.proofs.Common.{◌≡◌, ℕ, ◌+◌, ◌<◌, Bool, true, false, List, [], ◌∷◌, zero, suc, drop, replicate, arith, refl, ap, sym, subst, ◌∙◌}
 use Rattle.std.specs.Prelude.{IsTrue, nat_lt, ◌==◌, ◌&&◌, ◌||◌}
-use Rattle.std.proofs.lemmas.List.{drop_more}
 use Rattle.std.proofs.lemmas.Bool.Decides.{nat_tests}
 use Rattle.guppy_support.specs.Bits.{has}
 use Rattle.walk_engine.specs.Walks.{is_in}
@@ -20,10 +19,6 @@ or_assoc false b c = refl
 pub set_begins : (count : ℕ) (nodes : List ℕ) (set : List Bool) → set ≡ replicate count false → (n : ℕ) → (has set n || is_in nodes n) ≡ is_in nodes n
 set_begins count nodes set e n =
     ap (λ (s : List Bool). has s n || is_in nodes n) e ∙ ap (λ b. b || is_in nodes n) (none_in count n)
-
--- The rest of a list from an element on.
-pub rest_at : (nodes : List ℕ) (i x : ℕ) → i < length nodes → x ≡ get_or nodes i x → drop i nodes ≡ x ∷ drop (i + 1) nodes
-rest_at nodes i x within is = drop_more nodes i x within ∙ ap (λ y. y ∷ drop (i + 1) nodes) (sym is)
 
 -- A node is inserted.
 pub set_more : (nodes : List ℕ) (i x : ℕ) (old new : List Bool) → drop i nodes ≡ x ∷ drop (i + 1) nodes → ((n : ℕ) → has new n ≡ (has old n || (x == n)))

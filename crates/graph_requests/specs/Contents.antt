@@ -1,5 +1,5 @@
 -- The contents of answers over a feature graph.
-use Rattle.std.specs.Prelude.{◌≡◌, ◌↔◌, ℕ, List, ◌++◌, Bool, IsTrue, length, map}
+use Rattle.std.specs.Prelude.{◌≡◌, ◌↔◌, ℕ, List, ◌++◌, Bool, IsTrue, length}
 use Rattle.binary_records.specs.Records.{number, flag, list}
 use Rattle.guppy_support.specs.Bits.{has, members}
 use Rattle.digraph_orders.specs.Sequences.{Sequence, IsOrderOf}

@@ -86,25 +86,28 @@ walk_request direction initials choice = record { direction = direction; initial
 abbrev pub walk_in : ℕ → ℕ → List ℕ → Option WalkRequest
 walk_in nodes edges ws = option_and_then (λ s. option_map (walk_request s.0 s.1.0) (choice_in edges s.1.1)) (start_in nodes ws)
 
--- `count` steps, three numbers each, and the numbers after them.
-abbrev pub steps_in : ℕ → List ℕ → Option (List Step × List ℕ)
-steps_in zero ws = Some ([], ws)
-steps_in (suc n) [] = None
-steps_in (suc n) (node ∷ []) = None
-steps_in (suc n) (node ∷ (r ∷ [])) = None
-steps_in (suc n) (node ∷ (r ∷ (e ∷ ws))) = option_and_then (λ reason. option_map (λ p. ((record { node = node; reason = reason }) ∷ p.0, p.1)) (steps_in n ws)) (reason_in r e)
+-- A step, three numbers, and the numbers after it.
+abbrev pub step_in : List ℕ → Option (Step × List ℕ)
+step_in [] = None
+step_in (node ∷ []) = None
+step_in (node ∷ (r ∷ [])) = None
+step_in (node ∷ (r ∷ (e ∷ ws))) = option_map (λ reason. (record { node = node; reason = reason }, ws)) (reason_in r e)
 
--- `count` offers, two numbers each, and the numbers after them.
-abbrev pub offers_in : ℕ → List ℕ → Option (List (ℕ × Half) × List ℕ)
-offers_in zero ws = Some ([], ws)
-offers_in (suc n) [] = None
-offers_in (suc n) (e ∷ []) = None
-offers_in (suc n) (e ∷ (h ∷ ws)) = option_and_then (λ half. option_map (λ p. ((e, half) ∷ p.0, p.1)) (offers_in n ws)) (half_in h)
+-- An offer, two numbers, and the numbers after it.
+abbrev pub offer_in : List ℕ → Option ((ℕ × Half) × List ℕ)
+offer_in [] = None
+offer_in (e ∷ []) = None
+offer_in (e ∷ (h ∷ ws)) = option_map (λ half. ((e, half), ws)) (half_in h)
 
--- What `f` reads, after its count.
-abbrev pub after_count : {X : Type 0} → (ℕ → List ℕ → Option X) → List ℕ → Option X
-after_count f [] = None
-after_count f (n ∷ ws) = f n ws
+-- `count` items that `one` reads, and the numbers after them.
+abbrev pub many_in : {X : Type 0} → (List ℕ → Option (X × List ℕ)) → ℕ → List ℕ → Option (List X × List ℕ)
+many_in one zero ws = Some ([], ws)
+many_in one (suc n) ws = option_and_then (λ x. option_map (λ p. (x.0 ∷ p.0, p.1)) (many_in one n x.1)) (one ws)
+
+-- A list of items that `one` reads, after its count, and the numbers after it.
+abbrev pub list_in : {X : Type 0} → (List ℕ → Option (X × List ℕ)) → List ℕ → Option (List X × List ℕ)
+list_in one [] = None
+list_in one (n ∷ ws) = many_in one n ws
 
 -- A request for a check: a direction, the initial nodes, the steps, and the refused offers.
 pub record CheckRequest : Type 0 where
@@ -115,7 +118,7 @@ pub record CheckRequest : Type 0 where
 
 -- A list of steps and a list of offers, and nothing more.
 abbrev pub lists_in : List ℕ → Option (List Step × List (ℕ × Half))
-lists_in ws = option_and_then (λ steps. option_and_then (λ refused. at_end (steps.0, refused.0) refused.1) (after_count offers_in steps.1)) (after_count steps_in ws)
+lists_in ws = option_and_then (λ steps. option_and_then (λ refused. at_end (steps.0, refused.0) refused.1) (list_in offer_in steps.1)) (list_in step_in ws)
 
 abbrev pub check_request : DependencyDirection → List ℕ → List Step × List (ℕ × Half) → CheckRequest
 check_request direction initials lists = record { direction = direction; initials = initials; steps = lists.0; refused = lists.1 }

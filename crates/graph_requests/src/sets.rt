@@ -22,8 +22,8 @@ pub(crate) fn set_of(alloc: Global, count: usize, nodes: &[usize]) -> Result<IxB
     ensures { IfOk result (IsSetOf count nodes.now) }
 {
     let mut set = IxBitSet::empty(alloc, count)?;
-    for node in nodes {
-        insert(&mut set, *node);
+    for at in 0..nodes.len() {
+        insert(&mut set, nodes[at]);
     }
     Ok(set)
 }

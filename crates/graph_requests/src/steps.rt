@@ -9,27 +9,35 @@ use binary_records::{Entries, push_number};
 use std::alloc::{AllocError, Global};
 use walk_engine::{Half, Step, StepReason};
 
+/// Returns the step at the beginning of `words`, and the words after it, or `None`.
+fn step_in(words: &[usize]) -> Option<(Step, &[usize])>
+    ensures { option_map (λ p. (p.0, p.1.now)) result ≡ spec.step_in words.now }
+{
+    match words {
+        [node, reason, edge, rest @ ..] => {
+            let reason = reason_in(*reason, *edge)?;
+            let node = *node;
+            Some((Step { node, reason }, rest))
+        }
+        _ => None,
+    }
+}
+
 /// Returns `count` steps at the beginning of `words`, and the words after them, or `None`.
 fn some_steps(
     alloc: Global,
     count: usize,
     words: &[usize],
 ) -> Result<Option<(Vec<Step>, &[usize])>, AllocError>
-    ensures { IfOk result (λ found. option_map (λ p. (p.0.items, p.1.now)) found ≡ spec.steps_in count words.now) }
+    ensures { IfOk result (λ found. option_map (λ p. (p.0.items, p.1.now)) found ≡ spec.many_in spec.step_in count words.now) }
 {
     let mut steps = Vec::new(alloc);
     let mut rest = words;
     for _ in 0..count {
-        let [node, reason, edge, tail @ ..] = rest else {
+        let Some((step, tail)) = step_in(rest) else {
             return Ok(None);
         };
-        let Some(reason) = reason_in(*reason, *edge) else {
-            return Ok(None);
-        };
-        steps.push(Step {
-            node: *node,
-            reason,
-        })?;
+        steps.push(step)?;
         rest = tail;
     }
     Ok(Some((steps, rest)))
@@ -40,11 +48,24 @@ pub(crate) fn steps_in(
     alloc: Global,
     words: &[usize],
 ) -> Result<Option<(Vec<Step>, &[usize])>, AllocError>
-    ensures { IfOk result (λ found. option_map (λ p. (p.0.items, p.1.now)) found ≡ spec.after_count spec.steps_in words.now) }
+    ensures { IfOk result (λ found. option_map (λ p. (p.0.items, p.1.now)) found ≡ spec.list_in spec.step_in words.now) }
 {
     match words {
         [] => Ok(None),
         [count, rest @ ..] => some_steps(alloc, *count, rest),
+    }
+}
+
+/// Returns the offer at the beginning of `words`, and the words after it, or `None`.
+fn offer_in(words: &[usize]) -> Option<((usize, Half), &[usize])>
+    ensures { option_map (λ p. (p.0, p.1.now)) result ≡ spec.offer_in words.now }
+{
+    match words {
+        [edge, half, rest @ ..] => {
+            let half = half_in(*half)?;
+            Some(((*edge, half), rest))
+        }
+        _ => None,
     }
 }
 
@@ -54,18 +75,15 @@ fn some_offers(
     count: usize,
     words: &[usize],
 ) -> Result<Option<(Vec<(usize, Half)>, &[usize])>, AllocError>
-    ensures { IfOk result (λ found. option_map (λ p. (p.0.items, p.1.now)) found ≡ spec.offers_in count words.now) }
+    ensures { IfOk result (λ found. option_map (λ p. (p.0.items, p.1.now)) found ≡ spec.many_in spec.offer_in count words.now) }
 {
     let mut offers = Vec::new(alloc);
     let mut rest = words;
     for _ in 0..count {
-        let [edge, half, tail @ ..] = rest else {
+        let Some((offer, tail)) = offer_in(rest) else {
             return Ok(None);
         };
-        let Some(half) = half_in(*half) else {
-            return Ok(None);
-        };
-        offers.push((*edge, half))?;
+        offers.push(offer)?;
         rest = tail;
     }
     Ok(Some((offers, rest)))
@@ -76,7 +94,7 @@ pub(crate) fn offers_in(
     alloc: Global,
     words: &[usize],
 ) -> Result<Option<(Vec<(usize, Half)>, &[usize])>, AllocError>
-    ensures { IfOk result (λ found. option_map (λ p. (p.0.items, p.1.now)) found ≡ spec.after_count spec.offers_in words.now) }
+    ensures { IfOk result (λ found. option_map (λ p. (p.0.items, p.1.now)) found ≡ spec.list_in spec.offer_in words.now) }
 {
     match words {
         [] => Ok(None),

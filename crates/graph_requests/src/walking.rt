@@ -40,7 +40,7 @@ fn walk_in<'a>(
 }
 
 /// Walks from `initials`, and answers each offer by `choice`. Returns the steps and the refused offers.
-fn walk(
+fn explained(
     alloc: Global,
     built: &FeatureGraphData,
     direction: DependencyDirection,
@@ -53,7 +53,8 @@ fn walk(
 {
     let mut source = Packed::new(built, direction);
     let mut offerer = choice;
-    let (_walk, steps, refused) = walk_explained(alloc, &mut source, initials, &mut offerer)?;
+    let (walk, steps, refused) = walk_explained(alloc, &mut source, initials, &mut offerer)?;
+    drop(walk);
     Ok((steps, refused))
 }
 
@@ -83,7 +84,7 @@ fn walked(
     ensures { IfOk result (λ answer. Has (Walked built.now (spec.walk_request direction initials.now (choice_of choice.entry))) answer.items) }
 {
     let set = set_of(alloc, built.node_count(), initials)?;
-    let (steps, refused) = walk(alloc, built, direction, &set, choice)?;
+    let (steps, refused) = explained(alloc, built, direction, &set, choice)?;
     with_steps(alloc, &steps, &refused)
 }
 

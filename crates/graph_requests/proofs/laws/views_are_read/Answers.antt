@@ -1,4 +1,4 @@
-use Rattle.std.proofs.Common.{◌≡◌, [], ap}
+use Rattle.std.proofs.Common.{[], ap}
 use Rattle.std.specs.Prelude.{option_and_then}
 use Rattle.graph_requests.specs.Requests.{at_end}
 use Rattle.graph_requests.proofs.ReadBack.{start_back}

@@ -6,9 +6,9 @@ use Rattle.graph_requests.specs.Requests.{are_below}
 use Rattle.graph_requests.proofs.sets.set_of.Given as goal
 
 -- The nodes so far and those to come are all nodes, and those to come are nodes.
-abbrev pub invariant-loop-node : goal.invariant-loop-node
-invariant-loop-node l = record {
+abbrev pub invariant-loop-at : goal.invariant-loop-at
+invariant-loop-at l = record {
   size : length l.set ≡ l.count;
-  below : IsTrue (are_below l.count (drop l.node-index l.nodes));
-  rest : (n : ℕ) → (has l.set n || is_in (drop l.node-index l.nodes) n) ≡ is_in l.nodes n;
+  below : IsTrue (are_below l.count (drop l.at l.nodes));
+  rest : (n : ℕ) → (has l.set n || is_in (drop l.at l.nodes) n) ≡ is_in l.nodes n;
 }
