@@ -10,7 +10,7 @@ import re
 import subprocess
 import tempfile
 
-FUNCTION = re.compile(r'^( *)(?:pub(?:\([^)]*\))? )?(?:const |unsafe )*fn (\w+)')
+FUNCTION = re.compile(r'^( *)(?:pub(?:\([^)]*\))? )?(?:const |unsafe |extern "C" )*fn (\w+)')
 # A verdict on a function. One whose first reason is a callee's verdict says nothing of the function.
 VERDICT = re.compile(r'^fn (\S+): (proved|not proved|no proof)(?!: (?:it calls|it passes|a call of|its contract rests on))', re.M)
 ERROR = re.compile(r'^(?:\./)?((?:src|specs)/\S+?):\d+:\d+: error: (`[^`]*`: )?(.*)', re.M)

@@ -1,0 +1,9 @@
+//! Calls over the rows of a row file and a request, and their answers as bytes.
+#![tactic(auto)]
+
+mod answering;
+mod call;
+mod faults;
+
+pub use answering::{answer, write};
+pub use call::Call;

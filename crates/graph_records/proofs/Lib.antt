@@ -1,0 +1,3 @@
+pub mod PlatformLemmas
+pub mod NodeLemmas
+pub mod Pushed

@@ -1,0 +1,3 @@
+pub mod Packages
+pub mod Edges
+pub mod Descriptions

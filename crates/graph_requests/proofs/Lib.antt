@@ -1,0 +1,4 @@
+pub mod SetLemmas
+pub mod ChoiceWalks
+pub mod StepLemmas
+pub mod ReadBack

@@ -1,0 +1,5 @@
+pub mod Requests
+pub mod Choices
+pub mod Contents
+pub mod Written
+pub mod Answers
