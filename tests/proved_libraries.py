@@ -78,6 +78,16 @@ class ProvedLibraries:
         (Path(crate.folder) / 'out').mkdir(exist_ok=True)
         return Path(crate.folder), [self.rt.rtlib.RATTLE, 'check', *crate.words(['--jobs', '1']), '--incremental', 'out/incremental']
 
+    def archive(self, name):
+        """Proves the static library `name`, and builds its archive in the copy. Returns the path, or None if it isn't proved, and the output."""
+        crate = self.named(name)
+        made = Path(crate.folder) / f'out/lib{name}.a'
+        made.parent.mkdir(exist_ok=True)
+        words = [*crate.words(['--jobs', '1'], keeps=False), '--toolchain', f'{self.rt.KIT}/toolchain', '--backend', 'llvm', '-o', str(made)]
+        ran = subprocess.run([self.rt.rtlib.RATTLE, 'build', *words], cwd=crate.folder, stdin=subprocess.DEVNULL, stdout=subprocess.PIPE,
+                             stderr=subprocess.STDOUT, text=True, errors='replace')
+        return made if ran.returncode == 0 else None, ran.stdout
+
 
 def proved_by_rt(top, names):
     """Has `rt ci` prove and keep the crates `names` and those below them. Returns whether it could."""
