@@ -1,5 +1,6 @@
 //! The answers to rows with a fault.
 ghost use Rattle.std.specs.Prelude.{◌≡◌, ◌++◌, IfOk, OnOk};
+ghost use Rattle.binary_records.specs.Records.{number};
 ghost use Rattle.graph_answers.specs.Answers as spec;
 
 use binary_records::push_number;
@@ -21,21 +22,31 @@ fn fault_number(fault: RowFault) -> usize
     }
 }
 
+/// Appends the record of a malformed line.
+fn push_malformed(bytes: &mut Vec<u8>, line: usize) -> Result<(), AllocError>
+    ensures { OnOk result (bytes.new.items ≡ bytes.old.items ++ (number 4 ++ number line)) }
+{
+    push_number(bytes, 4)?;
+    push_number(bytes, line)
+}
+
+/// Appends the record of a row's fault.
+fn push_row(bytes: &mut Vec<u8>, line: usize, fault: RowFault) -> Result<(), AllocError>
+    ensures { OnOk result (bytes.new.items ≡ bytes.old.items ++ (number 5 ++ number line ++ number (spec.fault_number fault))) }
+{
+    push_number(bytes, 5)?;
+    push_number(bytes, line)?;
+    push_number(bytes, fault_number(fault))
+}
+
 /// Appends the record of a fault.
 fn push_fault(bytes: &mut Vec<u8>, error: RowFileError) -> Result<(), AllocError>
     ensures { OnOk result (bytes.new.items ≡ bytes.old.items ++ spec.fault_record error) }
 {
     match error {
         RowFileError::NotText => push_number(bytes, 3),
-        RowFileError::Malformed { line } => {
-            push_number(bytes, 4)?;
-            push_number(bytes, line)
-        }
-        RowFileError::Row { line, fault } => {
-            push_number(bytes, 5)?;
-            push_number(bytes, line)?;
-            push_number(bytes, fault_number(fault))
-        }
+        RowFileError::Malformed { line } => push_malformed(bytes, line),
+        RowFileError::Row { line, fault } => push_row(bytes, line, fault),
         RowFileError::Memory => push_number(bytes, 1),
     }
 }
