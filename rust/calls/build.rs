@@ -31,7 +31,7 @@ fn main() {
     let library = folder.join(LIBRARY);
     assert!(
         library.is_file(),
-        "{} is missing: build it by `rt lib` in crates/feature_graph_c, or name its folder by FEATURE_GRAPH_C",
+        "{} is missing: build it by `rust/make_library`, or name its folder by FEATURE_GRAPH_C",
         library.display()
     );
     let c_folder = Some(folder.clone()).filter(|it| it.join(C_LIBRARY).is_file()).or_else(kit_folder);
