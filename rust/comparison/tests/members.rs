@@ -11,6 +11,8 @@ use guppy_features::{
     PackageGraph, PackageId,
 };
 use std::collections::HashMap;
+use std::ops::Range;
+use std::thread;
 
 /// The number of comparisons over one graph.
 const A_GRAPH: usize = 20;
@@ -113,6 +115,18 @@ fn compare_graph(seed: u64) -> Vec<String> {
     differences.map(|it| format!("seed {seed}: {it}\n{rows}")).collect()
 }
 
+/// Makes comparisons over the graphs of these seeds, by as many threads as there are processors.
+fn compare_graphs(seeds: Range<u64>) -> Vec<String> {
+    let count = thread::available_parallelism().map_or(1, usize::from) as u64;
+    let seeds = |part: u64| seeds.clone().filter(move |seed| seed % count == part);
+    thread::scope(|scope| {
+        let parts: Vec<_> = (0..count)
+            .map(|part| scope.spawn(move || seeds(part).flat_map(compare_graph).collect::<Vec<String>>()))
+            .collect();
+        parts.into_iter().flat_map(|part| part.join().expect("a thread ends well")).collect()
+    })
+}
+
 fn number(name: &str, usual: u64) -> u64 {
     std::env::var(name).map_or(usual, |it| it.parse().unwrap_or_else(|_| panic!("{name} is a number")))
 }
@@ -121,7 +135,7 @@ fn number(name: &str, usual: u64) -> u64 {
 fn members_are_those_of_the_plain_implementation() {
     let graphs = number("COMPARISONS", 100_000).div_ceil(A_GRAPH as u64);
     let first = number("SEED", 1) << 32;
-    let differences: Vec<String> = (first..first + graphs).flat_map(compare_graph).collect();
+    let differences = compare_graphs(first..first + graphs);
     println!("{} compared, {} differ", graphs * A_GRAPH as u64, differences.len());
     assert!(differences.is_empty(), "{}", differences[0]);
 }
