@@ -170,10 +170,10 @@ impl MadeEdges {
         if key.kind.is_unconditional() {
             return self.add_unconditional(key);
         }
-        if let Some((earlier, number)) = self.last
-            && are_alike(material.numbers, earlier, key)
+        if let Some(last) = self.last
+            && are_alike(material.numbers, last.0, key)
         {
-            return self.repeat(key, number);
+            return self.repeat(key, last.1);
         }
         self.add_own(alloc, material, key, run)
     }

@@ -279,8 +279,10 @@ module _ (t : Tables) (n : ℕ) (links : List ℕ) (order : AreByName t n links)
       ∙ sym (filter-append test (take start links) rest)
       ∙ ap (filter test) (take-append-drop start links)
     where
-      test named : ℕ → Bool
+      test : ℕ → Bool
       test = is_link_under t p name
+
+      named : ℕ → Bool
       named = λ l. bytes_eq name (link_name t l)
 
       rest : List ℕ

@@ -13,13 +13,13 @@ returns-then-is_unconditional c =
 
 pub repeat-requires : goal.repeat-requires
 repeat-requires c =
-    let h = last_edge c.args.material.numbers.graph.now c.facts.ensures c.args.self.now c.in-Some.earlier c.args.key c.in-Some.number c.requires.of_tables c.requires.made.1.last c.in-Some.is (c.are_alike.ensures c.if-are_alike.true) in
-    slice_get_within c.args.self.now.edges c.in-Some.number h.says h.at
+    let h = last_edge c.args.material.numbers.graph.now c.facts.ensures c.args.self.now c.in-Some.last.0 c.args.key c.in-Some.last.1 c.requires.of_tables c.requires.made.1.last c.in-Some.is (c.are_alike.ensures c.if-are_alike.true) in
+    slice_get_within c.args.self.now.edges c.in-Some.last.1 h.says h.at
 
-pub returns-then-are_alike : goal.returns-then-are_alike
-returns-then-are_alike c =
+pub returns : goal.returns
+returns c =
     let t = c.args.material.numbers.graph.now in
-    let h = last_edge t c.facts.ensures c.args.self.now c.in-Some.earlier c.args.key c.in-Some.number c.requires.of_tables c.requires.made.1.last c.in-Some.is (c.are_alike.ensures c.if-are_alike.true) in
+    let h = last_edge t c.facts.ensures c.args.self.now c.in-Some.last.0 c.args.key c.in-Some.last.1 c.requires.of_tables c.requires.made.1.last c.in-Some.is (c.are_alike.ensures c.if-are_alike.true) in
     on_ok_weaker c.repeat.result
-    (λ told done made. noted_made t done c.args.key c.args.self.now c.repeat.new.self h.noted (repeat_added t c.args.key c.in-Some.number c.args.self.now c.repeat.new.self h (told h.says h.at)) made)
+    (λ told done made. noted_made t done c.args.key c.args.self.now c.repeat.new.self h.noted (repeat_added t c.args.key c.in-Some.last.1 c.args.self.now c.repeat.new.self h (told h.says h.at)) made)
     c.repeat.ensures
