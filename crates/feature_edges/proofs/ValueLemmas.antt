@@ -1,5 +1,5 @@
 -- The edges of keys, one after the other.
-use Rattle.std.proofs.Common.{◌≡◌, ℕ, zero, suc, ⊎_elim, List, [], ◌∷◌, ◌++◌, length, map, Some, refl, ap, sym, ◌∙◌, subst, arith, length-append}
+use Rattle.std.proofs.Common.{◌≡◌, ℕ, zero, suc, ⊎_elim, List, [], ◌∷◌, ◌++◌, length, map, None, Some, refl, ap, sym, ◌∙◌, subst, arith, length-append}
 use Rattle.std.specs.Prelude.{slice_get}
 use Rattle.std.specs.List.{zip}
 use Rattle.std.proofs.lemmas.List.{append_assoc}
@@ -10,7 +10,7 @@ use Rattle.feature_edges.specs.declared.table.MadeEdges.{MadeEdges}
 use Rattle.feature_edges.specs.declared.candidate.Key.{Key}
 use Rattle.feature_links.specs.Facts.{EdgeFacts}
 use Rattle.feature_edges.specs.Edges.{first_ones}
-use Rattle.feature_edges.specs.inner.Made.{IsValueOf, AreValues, AreMade, edge_end}
+use Rattle.feature_edges.specs.inner.Made.{IsValueOf, IsLast, AreValues, AreMade, edge_end}
 use Rattle.feature_edges.specs.inner.Weak.{AreGates, weak_sources}
 use Rattle.feature_edges.proofs.Places.{get_cases}
 
@@ -45,12 +45,13 @@ ends_more [] (g ∷ facts) x f h = absurd (omega (arith, h))
 ends_more (k ∷ keys) [] x f h = absurd (omega (arith, h))
 ends_more (k ∷ keys) (g ∷ facts) x f h = ap (λ z. edge_end k g ∷ z) (ends_more keys facts x f (omega (arith, h)))
 
-pub made_none : (t : Tables) (m : MadeEdges) → m.weak.entries ≡ [] → m.edges ≡ [] → m.ends ≡ [] → AreMade t [] m
-made_none t m weak edges ends = record {
+pub made_none : (t : Tables) (m : MadeEdges) → m.weak.entries ≡ [] → m.edges ≡ [] → m.ends ≡ [] → m.last ≡ None → AreMade t [] m
+made_none t m weak edges ends last = record {
   links = ap (map (λ e. e.0)) weak;
   gates = subst (λ z. AreGates t z) (sym weak) (λ i k gate h. cc);
   values = λ rest. subst (λ z. AreValues t (map (λ e. e.0) m.weak.entries ++ rest) [] z) (sym edges) (values_none t (map (λ e. e.0) m.weak.entries ++ rest));
   ends = ends;
+  last = λ x number is. cc;
 }
 
 -- one more edge, whose weak link is noted
@@ -61,8 +62,9 @@ pub made_next : (t : Tables) (done : List Key) (x : Key) (old new : MadeEdges) (
     → new.edges ≡ old.edges ++ f ∷ []
     → new.ends ≡ old.ends ++ edge_end x f ∷ []
     → ((rest : List ℕ) → IsValueOf t (map (λ e. e.0) new.weak.entries ++ rest) x f)
+    → IsLast t new
     → AreMade t done old → AreMade t (done ++ x ∷ []) new
-made_next t done x old new f more links gates grown edges ends value h =
+made_next t done x old new f more links gates grown edges ends value last h =
     let numbers : List ℕ = map (λ e. e.0) new.weak.entries in
     record {
       links = links;
@@ -73,4 +75,5 @@ made_next t done x old new f more links gates grown edges ends value h =
           subst (λ z. AreValues t (numbers ++ rest) (done ++ x ∷ []) z) (sym edges) (values_more t (numbers ++ rest) done x old.edges f before (value rest));
       ends = ends ∙ ap (λ z. z ++ edge_end x f ∷ []) h.ends ∙ ends_more done old.edges x f (h.values []).long
           ∙ ap (λ z. map (λ p. edge_end p.0 p.1) (zip (done ++ x ∷ []) z)) (sym edges);
+      last = last;
     }

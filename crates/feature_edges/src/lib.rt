@@ -2,13 +2,13 @@
 //! warnings.
 #![tactic(auto)]
 
+mod alike_keys;
 mod candidate;
 mod collect;
 mod default_nodes;
 mod gate_nodes;
 mod gates;
 mod make;
-mod near_keys;
 mod node_numbers;
 mod nodes;
 mod pool;

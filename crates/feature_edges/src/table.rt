@@ -1,11 +1,11 @@
 //! The edges of a package graph and its warnings, package by package.
-ghost use Rattle.std.specs.Prelude.{◌≡◌, ◌⊎◌, ◌++◌, ◌∷◌, [], ℕ, ◌+◌, ◌<◌, Contains, IfOk, List, OnOk, Some, length, map, slice_get};
+ghost use Rattle.std.specs.Prelude.{◌≡◌, ◌⊎◌, ◌++◌, ◌∷◌, [], ℕ, ◌+◌, ◌<◌, Contains, IfOk, List, None, OnOk, Some, length, map, slice_get};
 ghost use Rattle.indexmap.specs.IndexMap.{keys};
 ghost use Rattle.feature_edges.specs.declared.candidate.Key.{Key as KeyValue};
 ghost use Rattle.feature_edges.specs.EdgeEnds.{pairs_of, built_edges, end_of};
 ghost use Rattle.feature_edges.specs.Edges.{AreBuilt};
 ghost use Rattle.feature_links.specs.Facts.{EdgeFacts};
-ghost use Rattle.feature_edges.specs.inner.Alike.{AreNear, IsAdded, IsAppended};
+ghost use Rattle.feature_edges.specs.inner.Made.{IsAdded, IsAppended};
 ghost use Rattle.feature_edges.specs.inner.Keys.{AreLeast};
 ghost use Rattle.feature_edges.specs.inner.Made.{IsMaterial, IsRun, AreMade, AreMadeBefore, AreMadeBelow, AreWholeKeys, edge_end};
 ghost use Rattle.feature_links.specs.NamedLinks.{AreNamedLinks};
@@ -18,13 +18,13 @@ ghost use Rattle.feature_edges.specs.Warnings.{warnings, warnings_in};
 ghost use Rattle.feature_links.specs.Values.{edge_facts};
 ghost use Rattle.guppy_packages.specs.Tables.{AreTables, Tables};
 
+use crate::alike_keys::are_alike;
 use crate::candidate::{CandidateKind, Key, split_run};
 use crate::collect::{Collected, collect_around, collect_feature};
 use crate::default_nodes::default_nodes;
 use crate::gate_nodes::gate_nodes;
 use crate::gates::note_gate;
 use crate::make::{Material, edge_of};
-use crate::near_keys::NearKeys;
 use crate::node_numbers::Numbers;
 use crate::nodes::NodeTable;
 use crate::pool::EdgeList;
@@ -56,34 +56,32 @@ fn edge_end(key: Key, edge: &FeatureEdge) -> Edge
     }
 }
 
-/// The edges of keys, one after the other: their values, their ends, and the gate of each weak link.
+/// The edges of keys, one after the other: their values, their ends, and the gate of each weak link. `last` is the last key whose edge
+/// is its own, with the edge's number.
 #[derive(Drop)]
 pub(crate) struct MadeEdges {
     edges: EdgeList,
     ends: EdgeColumns,
     weak: IndexMap<usize, usize>,
+    last: Option<(Key, usize)>,
 }
 
-/// Buffers that packages share: one node's keys beside the warnings so far, keys that wait for those of features, and recent keys.
+/// Buffers that packages share: one node's keys beside the warnings so far, and keys that wait for those of features.
 #[derive(Drop)]
 struct Room {
     collected: Collected,
     later: Vec<Key>,
-    near: NearKeys,
 }
 
 impl Room {
     /// Returns empty buffers.
-    fn new(alloc: Global) -> Result<Room, AllocError>
-        ensures warnings { IfOk result (λ room. (t : Tables) → AreWarningsBelow t 0 room.collected) }
-        ensures near { IfOk result (λ room. (i : ℕ) (x : KeyValue) (number : ℕ) → slice_get room.near i ≡ Some (x, number) → x.kind ≡ CandidateKind.FeatureToBase) }
+    fn new(alloc: Global) -> Room
+        ensures { (t : Tables) → AreWarningsBelow t 0 result.collected }
     {
-        let near = NearKeys::new(alloc)?;
-        Ok(Room {
+        Room {
             collected: Collected::new(alloc),
             later: Vec::new(alloc),
-            near,
-        })
+        }
     }
 }
 
@@ -140,46 +138,44 @@ impl MadeEdges {
         &mut self,
         alloc: Global,
         material: Material<'_, '_>,
-        near: &mut NearKeys,
         key: Key,
         run: &[Key],
     ) -> Result<(), AllocError>
         requires material { IsMaterial material }
         requires of_tables { IsOfTables material.numbers.graph.now key }
         requires run { IsRun material.numbers.graph.now key run.now }
-        requires near { AreNear material.numbers.graph.now self.now near.now }
-        ensures made { OnOk result ((done : List KeyValue) → AreMade material.entry.numbers.graph.now done self.old → AreMade material.entry.numbers.graph.now (done ++ key ∷ []) self.new) }
-        ensures near { OnOk result (AreNear material.entry.numbers.graph.now self.new near.new) }
+        ensures { OnOk result ((done : List KeyValue) → AreMade material.entry.numbers.graph.now done self.old → AreMade material.entry.numbers.graph.now (done ++ key ∷ []) self.new) }
     {
         note_gate(&mut self.weak, material.numbers, material.gates, key)?;
-        near.insert(key, self.edges.len());
+        self.last = Some((key, self.edges.len()));
         self.make(alloc, material, key, run)
     }
 
-    /// Appends the edge of `key`. `run` has the keys of its pair. If a recent key is alike, its edge is repeated.
+    /// Appends the edge of `key`. `run` has the keys of its pair. If the last key with an edge of its own is alike, that edge is
+    /// repeated.
     fn add(
         &mut self,
         alloc: Global,
         material: Material<'_, '_>,
-        near: &mut NearKeys,
         key: Key,
         run: &[Key],
     ) -> Result<(), AllocError>
         requires material { IsMaterial material }
         requires of_tables { IsOfTables material.numbers.graph.now key }
         requires run { IsRun material.numbers.graph.now key run.now }
-        requires near { AreNear material.numbers.graph.now self.now near.now }
-        ensures made { OnOk result ((done : List KeyValue) → AreMade material.entry.numbers.graph.now done self.old → AreMade material.entry.numbers.graph.now (done ++ key ∷ []) self.new) }
-        ensures near { OnOk result (AreNear material.entry.numbers.graph.now self.new near.new) }
+        requires made { (done : List KeyValue) × AreMade material.numbers.graph.now done self.old }
+        ensures { OnOk result ((done : List KeyValue) → AreMade material.entry.numbers.graph.now done self.old → AreMade material.entry.numbers.graph.now (done ++ key ∷ []) self.new) }
     {
         material.numbers.graph.facts();
         if key.kind.is_unconditional() {
             return self.add_unconditional(key);
         }
-        match near.alike(material.numbers, key) {
-            Some(number) => self.repeat(key, number),
-            None => self.add_own(alloc, material, near, key, run),
+        if let Some(last) = self.last
+            && are_alike(material.numbers, last.0, key)
+        {
+            return self.repeat(key, last.1);
         }
+        self.add_own(alloc, material, key, run)
     }
 
     /// Appends the edges of sorted keys, one for each pair.
@@ -187,20 +183,18 @@ impl MadeEdges {
         &mut self,
         alloc: Global,
         material: Material<'_, '_>,
-        near: &mut NearKeys,
         keys: &[Key],
     ) -> Result<(), AllocError>
         requires material { IsMaterial material }
         requires keys { AreWholeKeys material.numbers.graph.now keys.now }
-        requires near { AreNear material.numbers.graph.now self.now near.now }
-        ensures made { OnOk result ((kept : List KeyValue) × AreLeast keys.now kept × ((done : List KeyValue) → AreMade material.entry.numbers.graph.now done self.old → AreMade material.entry.numbers.graph.now (done ++ kept) self.new)) }
-        ensures near { OnOk result (AreNear material.entry.numbers.graph.now self.new near.new) }
+        requires made { (done : List KeyValue) × AreMade material.numbers.graph.now done self.old }
+        ensures { OnOk result ((kept : List KeyValue) × AreLeast keys.now kept × ((done : List KeyValue) → AreMade material.entry.numbers.graph.now done self.old → AreMade material.entry.numbers.graph.now (done ++ kept) self.new)) }
     {
         let mut rest = keys;
         while rest.len() > 0 {
             let key = rest[0];
             let (run, later) = split_run(rest, key);
-            self.add(alloc, material, near, key, run)?;
+            self.add(alloc, material, key, run)?;
             rest = later;
         }
         Ok(())
@@ -217,17 +211,15 @@ impl MadeEdges {
         requires material { IsMaterial material }
         requires package { ix < length material.numbers.graph.now.packages }
         requires made { AreMadeBefore material.numbers.graph.now (first_node material.numbers.graph.now ix + 1) self.old }
-        requires near { AreNear material.numbers.graph.now self.now room.now.near }
         ensures made { OnOk result (AreMadeBefore material.entry.numbers.graph.now (first_node material.entry.numbers.graph.now ix + 1 + features_in material.entry.numbers.graph.now ix) self.new) }
         ensures items { OnOk result (warnings_in room.new.collected.item_warnings ≡ warnings_in room.old.collected.item_warnings ++ of_features material.entry.numbers.graph.now ix) }
         ensures names { OnOk result (warnings_in room.new.collected.name_warnings ≡ warnings_in room.old.collected.name_warnings) }
         ensures later { room.new.later ≡ room.old.later }
-        ensures near { OnOk result (AreNear material.entry.numbers.graph.now self.new room.new.near) }
     {
         let features = material.numbers.graph.package(ix).named_features();
         for place in 0..features.len() {
             collect_feature(&mut room.collected, alloc, material, ix, place)?;
-            self.add_all(alloc, material, &mut room.near, &room.collected.keys)?;
+            self.add_all(alloc, material, &room.collected.keys)?;
         }
         Ok(())
     }
@@ -244,16 +236,14 @@ impl MadeEdges {
         requires package { ix < length material.numbers.graph.now.packages }
         requires made { AreMadeBelow material.numbers.graph.now ix self.old }
         requires warnings { AreWarningsBelow material.numbers.graph.now ix room.old.collected }
-        requires near { AreNear material.numbers.graph.now self.now room.now.near }
         ensures made { OnOk result (AreMadeBelow material.entry.numbers.graph.now (ix + 1) self.new) }
         ensures warnings { OnOk result (AreWarningsBelow material.entry.numbers.graph.now (ix + 1) room.new.collected) }
-        ensures near { OnOk result (AreNear material.entry.numbers.graph.now self.new room.new.near) }
     {
         material.numbers.graph.facts();
         collect_around(&mut room.collected, &mut room.later, alloc, material, ix)?;
-        self.add_all(alloc, material, &mut room.near, &room.collected.keys)?;
+        self.add_all(alloc, material, &room.collected.keys)?;
         self.add_features(alloc, material, room, ix)?;
-        self.add_all(alloc, material, &mut room.near, &room.later)?;
+        self.add_all(alloc, material, &room.later)?;
         Ok(())
     }
 
@@ -267,10 +257,8 @@ impl MadeEdges {
         requires material { IsMaterial material }
         requires made { AreMadeBelow material.numbers.graph.now 0 self.old }
         requires warnings { AreWarningsBelow material.numbers.graph.now 0 room.old.collected }
-        requires near { AreNear material.numbers.graph.now self.now room.now.near }
         ensures made { OnOk result (AreMadeBelow material.entry.numbers.graph.now (length material.entry.numbers.graph.now.packages) self.new) }
         ensures warnings { OnOk result (AreWarningsBelow material.entry.numbers.graph.now (length material.entry.numbers.graph.now.packages) room.new.collected) }
-        ensures near { OnOk result (AreNear material.entry.numbers.graph.now self.new room.new.near) }
     {
         for ix in 0..material.numbers.graph.package_count() {
             self.add_package(alloc, material, room, ix)?;
@@ -290,7 +278,7 @@ impl MadeEdges {
         ensures warnings { IfOk result (λ found. warnings_in found ≡ warnings material.entry.numbers.graph.now) }
     {
         material.numbers.graph.facts();
-        let mut room = Room::new(alloc)?;
+        let mut room = Room::new(alloc);
         self.add_packages(alloc, material, &mut room)?;
         room.collected.into_warnings()
     }
@@ -301,6 +289,7 @@ fn edges_with_capacity(alloc: Global, room: usize, own: usize) -> Result<MadeEdg
     ensures edges { IfOk result (λ made. made.edges ≡ []) }
     ensures ends { IfOk result (λ made. made.ends ≡ []) }
     ensures weak { IfOk result (λ made. made.weak.entries ≡ []) }
+    ensures last { IfOk result (λ made. made.last ≡ None) }
 {
     let edges = EdgeList::with_capacity(alloc, room, own)?;
     let ends = EdgeColumns::with_capacity(alloc, room)?;
@@ -308,6 +297,7 @@ fn edges_with_capacity(alloc: Global, room: usize, own: usize) -> Result<MadeEdg
         edges,
         ends,
         weak: IndexMap::new(alloc),
+        last: None,
     })
 }
 
@@ -331,6 +321,7 @@ fn no_edges(alloc: Global, nodes: usize, graph: &PackageGraph) -> Result<MadeEdg
     ensures edges { IfOk result (λ made. made.edges ≡ []) }
     ensures ends { IfOk result (λ made. made.ends ≡ []) }
     ensures weak { IfOk result (λ made. made.weak.entries ≡ []) }
+    ensures last { IfOk result (λ made. made.last ≡ None) }
 {
     let links = graph.link_count();
     let own = links.saturating_mul(3);
@@ -386,7 +377,9 @@ pub fn edge_table(
         gates: gates.as_slice(),
     };
     let (made, warnings) = made_edges(alloc, material)?;
-    let MadeEdges { edges, ends, weak } = made;
+    let MadeEdges {
+        edges, ends, weak, ..
+    } = made;
     let digraph = Digraph::from_columns(alloc, table.packages.len(), ends)?;
     let edge_table = EdgeTable {
         digraph,

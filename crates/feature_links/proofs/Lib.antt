@@ -3,6 +3,5 @@ pub mod LinkLemmas
 pub mod GroupedLinks
 pub mod NameLemmas
 pub mod LinkOrderLemmas
-pub mod PrefixLemmas
 pub mod StatusLemmas
 pub mod SectionLemmas

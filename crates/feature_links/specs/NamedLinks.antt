@@ -5,7 +5,6 @@ use Rattle.std.specs.Str.{bytes_eq}
 use Rattle.guppy_packages.specs.Rows.{Text}
 use Rattle.guppy_packages.specs.Tables.{Tables}
 use Rattle.feature_links.specs.declared.link_groups.LinkGroups.{LinkGroups}
-use Rattle.feature_links.specs.declared.link_names.NamedLink.{NamedLink}
 use Rattle.feature_links.specs.Links.{links_named}
 
 -- The numbers of the links that leave package `p` under `name`, ascending.
@@ -16,13 +15,9 @@ link_numbers t p name = map (λ l. l.0) (links_named t p name)
 abbrev pub is_link_under : Tables → ℕ → Text → ℕ → Bool
 is_link_under t p name k = option_map_or (λ l. (l.from == p) && bytes_eq l.name name) (slice_get t.links k) false
 
--- The number of a link in a list by name.
-abbrev pub number_of : NamedLink → ℕ
-number_of link = link.number
-
 -- The numbers that `groups` has for package `p` and `name`.
 abbrev pub numbers_under : LinkGroups → ℕ → Text → List ℕ
-numbers_under groups p name = filter (is_link_under groups.graph.now p name) (map number_of groups.links.items)
+numbers_under groups p name = filter (is_link_under groups.graph.now p name) groups.links.items
 
 -- `groups` has the numbers of the tables' links, for each package and name.
 abbrev pub AreNamedLinks : Tables → LinkGroups → Type 0

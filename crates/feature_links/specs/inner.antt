@@ -1,3 +1,2 @@
 pub mod Collected
 pub mod LinkOrder
-pub mod Prefixes

@@ -4,12 +4,10 @@
 mod edge;
 mod link;
 mod link_groups;
-mod link_names;
 mod links_by_name;
 
 pub use edge::{EdgeChoice, FeatureEdge, WeakIndex, WeakSlashImpl};
 pub use link::from_declarations::{half_of, is_any_included, link_of, named_link, section_link};
 pub use link::{ConditionalLinkImpl, EnabledLink};
 pub use link_groups::LinkGroups;
-pub use link_names::NamedLink;
 pub use links_by_name::{named_links, numbers_of};

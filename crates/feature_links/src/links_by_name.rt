@@ -1,14 +1,12 @@
 //! The links of each package under each name.
-ghost use Rattle.std.specs.Prelude.{◌≡◌, IfOk, map};
-ghost use Rattle.feature_links.specs.NamedLinks.{AreNamedLinks, number_of, numbers_under};
+ghost use Rattle.std.specs.Prelude.{◌≡◌, IfOk};
+ghost use Rattle.feature_links.specs.NamedLinks.{AreNamedLinks, numbers_under};
 
 use crate::link_groups::{LinkGroups, all_links, links_with_name, sort_part};
-use crate::link_names::NamedLink;
 use guppy_packages::PackageGraph;
 use std::alloc::{AllocError, Global};
 
-/// Returns the links of `graph`, grouped by the package that they leave and by name. Returns `AllocError` if an allocation fails,
-/// or a link's number doesn't fit in 32 bits.
+/// Returns the links of `graph`, grouped by the package that they leave and by name. `AllocError` is the only error.
 pub fn named_links(alloc: Global, graph: &PackageGraph) -> Result<LinkGroups<'_>, AllocError>
     ensures { IfOk result (λ groups. AreNamedLinks graph.now groups) }
 {
@@ -20,9 +18,9 @@ pub fn named_links(alloc: Global, graph: &PackageGraph) -> Result<LinkGroups<'_>
     Ok(LinkGroups { graph, links })
 }
 
-/// Returns the links that leave package `from` under `name`, their numbers ascending.
-pub fn numbers_of<'a>(groups: &'a LinkGroups<'_>, from: usize, name: &str) -> &'a [NamedLink]
-    ensures { map number_of result.now ≡ numbers_under groups.now from name.now }
+/// Returns the numbers of the links that leave package `from` under `name`, ascending.
+pub fn numbers_of<'a>(groups: &'a LinkGroups<'_>, from: usize, name: &str) -> &'a [usize]
+    ensures { result.now ≡ numbers_under groups.now from name.now }
 {
     let graph = groups.graph;
     graph.facts();

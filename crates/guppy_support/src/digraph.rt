@@ -199,12 +199,21 @@ impl Digraph {
         self.begins[node] as usize..self.begins[node + 1] as usize
     }
 
+    /// Returns the numbers of the edges that enter `node`, ascending.
+    pub fn in_edges(&self, node: usize) -> &[u32]
+        requires { node < self.now.nodes }
+        ensures { result.now ≡ places node (targets self.now.edges) }
+    {
+        let begins = &self.inward.begins;
+        &self.inward.numbers[begins[node] as usize..begins[node + 1] as usize]
+    }
+
     /// Returns the number of edges that enter `node`.
     pub fn in_degree(&self, node: usize) -> usize
         requires { node < self.now.nodes }
         ensures { result ≡ length (places node (targets self.now.edges)) }
     {
-        self.in_numbers(node).len()
+        self.in_edges(node).len()
     }
 
     /// Returns edge `place`, from 0, of those that enter `node`, by their numbers; `None` if there are fewer.
@@ -213,21 +222,12 @@ impl Digraph {
         ensures number { result ≡ slice_get (places node (targets self.now.edges)) place }
         ensures few { IfSome result (λ _. place + 1 < 2 ^ 64) }
     {
-        let numbers = self.in_numbers(node);
+        let numbers = self.in_edges(node);
         if place < numbers.len() {
             Some(numbers[place] as usize)
         } else {
             None
         }
-    }
-
-    /// Returns the numbers of the edges that enter `node`, ascending.
-    fn in_numbers(&self, node: usize) -> &[u32]
-        requires { node < self.now.nodes }
-        ensures { result.now ≡ places node (targets self.now.edges) }
-    {
-        let begins = &self.inward.begins;
-        &self.inward.numbers[begins[node] as usize..begins[node + 1] as usize]
     }
 }
 

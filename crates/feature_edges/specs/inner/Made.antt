@@ -1,5 +1,5 @@
 -- The edges of keys, as they are built.
-use Rattle.std.specs.Prelude.{◌≡◌, ℕ, ◌<◌, ◌≤◌, ◌↔◌, List, ◌++◌, Contains, AllPairs, Some, slice_get, length, map, not}
+use Rattle.std.specs.Prelude.{◌≡◌, ℕ, ◌<◌, ◌≤◌, ◌↔◌, List, [], ◌∷◌, ◌++◌, Contains, AllPairs, Some, slice_get, length, map, not}
 use Rattle.std.specs.List.{zip}
 use Rattle.guppy_support.specs.declared.digraph.Edge.{Edge as End}
 use Rattle.guppy_packages.specs.Tables.{Tables}
@@ -11,6 +11,7 @@ use Rattle.feature_edges.specs.inner.Keys.{kind_of, IsNoLater, IsPair, IsBefore,
 use Rattle.feature_links.specs.NamedLinks.{AreNamedLinks}
 use Rattle.feature_edges.specs.DefaultNodes.{AreDefaultNodes}
 use Rattle.feature_edges.specs.inner.Parts.{IsOfTables}
+use Rattle.feature_edges.specs.declared.candidate.CandidateKind.TheVariants.{SlashWeak}
 use Rattle.feature_edges.specs.declared.candidate.Key.{Key}
 use Rattle.feature_edges.specs.inner.Weak.{AreGates, weak_sources}
 use Rattle.feature_edges.specs.inner.GateNodes.{AreGateNodes}
@@ -68,12 +69,38 @@ pub record IsKeptBefore (t : Tables) (n : ℕ) (kept : List Key) : Type 0 where
   pub of_nodes : AreFrom t 0 n keys
   pub least : AreLeast keys kept
 
+-- Edge `number` is that of key `x`, for any weak links that follow. If it is weak, its link is noted.
+pub record HasEdge (t : Tables) (m : MadeEdges) (x : Key) (number : ℕ) : Type 0 where
+  pub of_tables : IsOfTables t x
+  pub says : EdgeFacts
+  pub at : slice_get m.edges number ≡ Some says
+  pub value : (rest : List ℕ) → IsValueOf t (map (λ e. e.0) m.weak.entries ++ rest) x says
+  pub noted : x.kind ≡ SlashWeak → Contains (map (λ e. e.0) m.weak.entries) x.source
+
+-- The last key with an edge of its own has the noted edge.
+abbrev pub IsLast : Tables → MadeEdges → Type 0
+IsLast t m = (x : Key) (number : ℕ) → m.last ≡ Some (x, number) → HasEdge t m x number
+
+-- The edge `f` of key `x` is appended.
+pub record IsAppended (x : Key) (f : EdgeFacts) (old new : MadeEdges) : Type 0 where
+  pub weak : new.weak.entries ≡ old.weak.entries
+  pub last : new.last ≡ old.last
+  pub edges : new.edges ≡ old.edges ++ f ∷ []
+  pub ends : new.ends ≡ old.ends ++ edge_end x f ∷ []
+
+-- The edge of key `x` is appended, and it is correct for any weak links that follow.
+pub record IsAdded (t : Tables) (x : Key) (old new : MadeEdges) : Type 0 where
+  pub says : EdgeFacts
+  pub appended : IsAppended x says old new
+  pub value : (rest : List ℕ) → IsValueOf t (map (λ e. e.0) new.weak.entries ++ rest) x says
+
 -- `m` is built from these keys, for any weak links that follow.
 pub record AreMade (t : Tables) (kept : List Key) (m : MadeEdges) : Type 0 where
   pub links : map (λ e. e.0) m.weak.entries ≡ first_ones (weak_sources kept)
   pub gates : AreGates t m.weak.entries
   pub values : (rest : List ℕ) → AreValues t (map (λ e. e.0) m.weak.entries ++ rest) kept m.edges
   pub ends : m.ends ≡ map (λ p. edge_end p.0 p.1) (zip kept m.edges)
+  pub last : IsLast t m
 
 -- The edges of the keys before `rest` are built: `new` has them after those of `old`.
 pub record AreWalked (t : Tables) (keys rest : List Key) (old new : MadeEdges) : Type 0 where

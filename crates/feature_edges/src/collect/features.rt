@@ -141,8 +141,7 @@ fn push_over(
         return push_missing(input.alloc, warnings, input.metadata, name);
     }
     for place in 0..links.len() {
-        let ix = links[place].number();
-        push_over_link(collected, input, from, feature, weak, ix)?;
+        push_over_link(collected, input, from, feature, weak, links[place])?;
     }
     Ok(())
 }

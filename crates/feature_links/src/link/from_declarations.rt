@@ -7,14 +7,13 @@ ghost use Rattle.guppy_packages.specs.Stored.{declared};
 ghost use Rattle.guppy_packages.specs.Tables.{LinkTable};
 ghost use Rattle.feature_links.specs.Links.{by_name, half_of, IsLink, includes, links_at, at_places, over, over_parts, ArePassing};
 ghost use Rattle.feature_links.specs.inner.Collected.{HasKinds, HasParts, wanted, wanted_parts};
-ghost use Rattle.feature_links.specs.NamedLinks.{AreNamedLinks, number_of};
+ghost use Rattle.feature_links.specs.NamedLinks.{AreNamedLinks};
 ghost use Rattle.feature_links.specs.Values.{link_facts, half_facts};
 
 use crate::link::held::LinkStatuses;
 use crate::link::statuses::KindCollectors;
 use crate::link::{ConditionalLinkImpl, EnabledLink};
 use crate::link_groups::LinkGroups;
-use crate::link_names::NamedLink;
 use crate::links_by_name::numbers_of;
 use feature_labels::LinkDeclarations;
 use guppy_packages::{Declaration, PackageGraph, PackageLink};
@@ -300,17 +299,6 @@ pub fn half_of(
     Ok(EnabledLink { link: Some(link) })
 }
 
-/// Returns the numbers of `links`.
-fn numbers_in(alloc: Global, links: &[NamedLink]) -> Result<Vec<usize>, AllocError>
-    ensures { IfOk result (λ numbers. numbers.items ≡ map number_of links.now) }
-{
-    let mut numbers = Vec::with_capacity(alloc, links.len())?;
-    for link in links {
-        numbers.push(link.number())?;
-    }
-    Ok(numbers)
-}
-
 /// Returns the link over the declarations that `which` covers, of all links that leave package `package_ix` under `name`.
 /// `AllocError` is the only error.
 pub fn named_link(
@@ -325,12 +313,7 @@ pub fn named_link(
     ensures { IfOk result (λ l. link_facts l ≡ by_name graph.now package_ix which name.now) }
 {
     let links = numbers_of(groups, package_ix, name);
-    if let [link] = links {
-        let number = [link.number()];
-        return links_over(alloc, graph, &number, which);
-    }
-    let numbers = numbers_in(alloc, links)?;
-    links_over(alloc, graph, &numbers, which)
+    links_over(alloc, graph, links, which)
 }
 
 /// Returns the link over the declarations at `places` of package link `link_ix`. A single declaration is not collected.

@@ -7,5 +7,5 @@ pub fill-requires-clause-made : goal.fill-requires-clause-made
 fill-requires-clause-made c = record {
   kept = [];
   is_kept = kept_none c.args.material.numbers.graph.now;
-  made = made_none c.args.material.numbers.graph.now _ c.in_ok-made.ensures.weak c.in_ok-made.ensures.edges c.in_ok-made.ensures.ends;
+  made = made_none c.args.material.numbers.graph.now _ c.in_ok-made.ensures.weak c.in_ok-made.ensures.edges c.in_ok-made.ensures.ends c.in_ok-made.ensures.last;
 }

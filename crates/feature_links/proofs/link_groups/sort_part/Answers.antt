@@ -1,7 +1,7 @@
 use Rattle.std.proofs.Common.{◌++◌, ap, arith, of_calls, refl, rules, ◌∙◌}
 use Rattle.std.proofs.lemmas.Result.{on_ok_weaker}
 use Rattle.std.proofs.lemmas.Fn.{always_returns_same}
-use Rattle.feature_links.specs.inner.LinkOrder.{link_key}
+use Rattle.feature_links.specs.inner.LinkOrder.{link_name}
 use Rattle.feature_links.proofs.NameLemmas.{is_before, ranked}
 use Rattle.feature_links.proofs.link_groups.sort_part.Goals as goal
 
@@ -9,7 +9,7 @@ pub returns : goal.returns
 returns c =
     let front = c.split_at_mut-rest.result.0.now in
     let part = c.split_at_mut-part.result.0.now in
-    let key = link_key c.args.graph.now in
+    let key = link_name c.args.graph.now in
     on_ok_weaker c.sort_by.result (λ sorted. record {
       front = front;
       part = part;

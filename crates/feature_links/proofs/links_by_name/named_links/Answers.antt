@@ -1,4 +1,4 @@
-use Rattle.std.proofs.Common.{◌∙◌, ◌+◌, arith, map, ap, sym, subst}
+use Rattle.std.proofs.Common.{◌∙◌, ◌+◌, ap, sym, subst}
 use Rattle.std.specs.Prelude.{filter}
 use Rattle.guppy_packages.specs.Metadata.{package_number_of}
 use Rattle.guppy_packages.specs.Tables.{AreLinksFrom}
@@ -12,7 +12,7 @@ pub loop-ix-init : goal.loop-ix-init
 loop-ix-init c =
     let t = c.args.graph.now in
     let all = c.in_ok-links.ensures in
-    (unsorted t c.in_ok-links.links.items all.numbers all.prefixes, λ p name. ap (filter (is_link_under t p name)) all.numbers ∙ all_under t p name)
+    (unsorted t c.in_ok-links.links.items all, λ p name. ap (filter (is_link_under t p name)) all ∙ all_under t p name)
 
 pub loop-ix-preserved : goal.loop-ix-preserved
 loop-ix-preserved c =
@@ -29,5 +29,5 @@ loop-ix-preserved c =
     let sorted : IsPartSorted t start end old new = subst (λ z. IsPartSorted t start end z new) c.as_mut_slice.ensures.value c.in_ok-sort_part.ensures in
     let is = written_over new old c.loop-ix.links.len (long t start end old new sorted) c.loop-ix.links.ok.0 in (
       subst (AreByName t (n + 1)) (sym is) (next_sorted t start end old new sorted n from order),
-      λ p name. ap (λ z. filter (is_link_under t p name) (map (λ l. l.number) z)) is ∙ same_under t start end old new sorted n order (omega (arith, from.within, order.count)) p name ∙ c.loop-ix.invariant.1 p name,
+      λ p name. ap (filter (is_link_under t p name)) is ∙ same_under t start end old new sorted p name ∙ c.loop-ix.invariant.1 p name,
     )

@@ -1,11 +1,9 @@
-use Rattle.std.proofs.Common.{◌∙◌, ◌-◌, ap, arith, drop, length, map, sym, subst, take}
+use Rattle.std.proofs.Common.{◌∙◌, ◌-◌, ap, arith, drop, length, sym, subst, take}
 use Rattle.std.specs.Prelude.{filter}
 use Rattle.std.specs.Str.{bytes_eq}
 use Rattle.guppy_packages.specs.Metadata.{package_number_of}
 use Rattle.guppy_packages.specs.Tables.{AreLinksFrom}
-use Rattle.feature_links.specs.inner.LinkOrder.{AreOrdered, link_key}
-use Rattle.feature_links.specs.inner.Prefixes.{name_key}
-use Rattle.feature_links.specs.NamedLinks.{number_of}
+use Rattle.feature_links.specs.inner.LinkOrder.{AreOrdered, link_name}
 use Rattle.feature_links.proofs.LinkOrderLemmas.{none_under, part_ordered, part_under}
 use Rattle.feature_links.proofs.links_by_name.numbers_of.Goals as goal
 
@@ -34,6 +32,6 @@ returns c =
     let from : AreLinksFrom t.links c.args.from start end =
     subst (λ z. AreLinksFrom t.links z start end) c.package.ensures.number
     (subst (λ g. AreLinksFrom g.links (package_number_of c.package.result) start end) c.package.ensures.graph c.direct_links-range.ensures) in
-    ap (map number_of) (c.links_with_name.ensures
-    ∙ ap (λ xs. filter (λ l. bytes_eq (name_key name) (link_key t l)) (take (end - start) (drop start xs))) c.deref.ensures.value)
+    c.links_with_name.ensures
+    ∙ ap (λ xs. filter (λ l. bytes_eq name (link_name t l)) (take (end - start) (drop start xs))) c.deref.ensures.value
     ∙ part_under t (length t.packages) groups.links.items groups.by_name c.args.from start end (omega (arith, c.if-from-package_count.false, c.package_count.ensures)) from name

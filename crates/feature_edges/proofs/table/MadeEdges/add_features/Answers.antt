@@ -22,7 +22,6 @@ loop-place-init c = record {
   items = λ table is. nothing (warnings_in c.args.room.now.collected.item_warnings);
   names = refl;
   later = refl;
-  near = c.requires.near;
 }
 
 pub collect_feature-requires-clause-place : goal.collect_feature-requires-clause-place
@@ -38,6 +37,9 @@ add_all-requires-clause-keys c =
     let f = first_node t c.args.ix in
     subst (AreWholeKeys t) (sym c.deref.ensures.value) (whole_keys t (f + 1 + c.loop-place.place) (f + 1 + (c.loop-place.place + 1)) c.collect_feature.new.collected.keys.items c.in_ok-collect_feature.ensures.ordered c.in_ok-collect_feature.ensures.keys)
 
+pub add_all-requires-clause-made : goal.add_all-requires-clause-made
+add_all-requires-clause-made c = let made = c.loop-place.invariant.made in (made.kept, made.made)
+
 pub loop-place-preserved : goal.loop-place-preserved
 loop-place-preserved c =
     let t = c.args.material.numbers.graph.now in
@@ -45,7 +47,7 @@ loop-place-preserved c =
     let k = c.loop-place.place in
     let f = first_node t p in
     let all = c.loop-place.invariant in
-    let more = c.in_ok-add_all.ensures.made in
+    let more = c.in_ok-add_all.ensures in
     let keys = c.collect_feature.new.collected.keys.items in
     record {
       made = record {
@@ -62,7 +64,6 @@ loop-place-preserved c =
           (c.in_ok-collect_feature.ensures.items ∙ ap (λ z. warnings_in c.loop-place.room.collected.item_warnings ++ z) (at_feature t p k table feature.0 is feature.1));
       names = c.in_ok-collect_feature.ensures.names ∙ all.names;
       later = all.later;
-      near = c.in_ok-add_all.ensures.near;
     }
 
 pub returns-clause-made : goal.returns-clause-made
@@ -86,6 +87,3 @@ returns-clause-items c =
 
 pub returns-clause-names : goal.returns-clause-names
 returns-clause-names c = c.loop-place.invariant.names
-
-pub returns-clause-near : goal.returns-clause-near
-returns-clause-near c = c.loop-place.invariant.near

@@ -4,7 +4,6 @@ use Rattle.guppy_packages.specs.Tables.{PackageTable}
 use Rattle.feature_links.specs.Links.{IsPackage}
 use Rattle.feature_edges.specs.Nodes.{first_node}
 use Rattle.feature_edges.specs.Warnings.{warnings_in}
-use Rattle.feature_edges.specs.inner.Alike.{AreNear}
 use Rattle.feature_edges.specs.inner.Collects.{of_feature}
 use Rattle.feature_edges.specs.inner.Made.{AreMadeBefore}
 use Rattle.feature_edges.proofs.table.MadeEdges.add_features.Given as goal
@@ -18,5 +17,4 @@ invariant-loop-place l =
       items : (table : PackageTable) → IsPackage t l.ix table → warnings_in l.room.collected.item_warnings ≡ warnings_in start.item_warnings ++ flat_map (of_feature t l.ix table) (take l.place table.features);
       names : warnings_in l.room.collected.name_warnings ≡ warnings_in start.name_warnings;
       later : l.room.later ≡ l.initial.room.later;
-      near : AreNear t l.self l.room.near;
     }

@@ -17,12 +17,18 @@ add_all-requires-clause-keys c =
     let f = first_node t c.args.ix in
     subst (AreWholeKeys t) (sym c.deref.ensures.value) (whole_keys t f (f + 1) c.collect_around.new.collected.keys.items c.in_ok-collect_around.ensures.base_ordered c.in_ok-collect_around.ensures.base)
 
+pub add_all-requires-clause-made : goal.add_all-requires-clause-made
+add_all-requires-clause-made c = (c.requires.made.kept, c.requires.made.made)
+
+pub add_all-requires-2-clause-made : goal.add_all-requires-2-clause-made
+add_all-requires-2-clause-made c = let made = c.in_ok-add_features.ensures.made in (made.kept, made.made)
+
 pub add_features-requires-clause-made : goal.add_features-requires-clause-made
 add_features-requires-clause-made c =
     let t = c.args.material.numbers.graph.now in
     let f = first_node t c.args.ix in
     let made = c.requires.made in
-    let more = c.in_ok-add_all.ensures.made in
+    let more = c.in_ok-add_all.ensures in
     record {
       kept = made.kept ++ more.0;
       is_kept = kept_next t f (f + 1) made.kept c.collect_around.new.collected.keys.items more.0 (omega arith) made.is_kept c.in_ok-collect_around.ensures.base (subst (λ z. AreLeast z more.0) c.deref.ensures.value more.1);
@@ -46,7 +52,7 @@ returns-clause-made c =
     let later = c.collect_around.new.later.items in
     let same : c.deref-2.result.now ≡ later = c.deref-2.ensures.value ∙ ap (λ z. z.items) c.add_features.ensures.later in
     let made = c.in_ok-add_features.ensures.made in
-    let more = c.in_ok-add_all-2.ensures.made in
+    let more = c.in_ok-add_all-2.ensures in
     record {
       kept = made.kept ++ more.0;
       is_kept = kept_next t (first_node t p + 1 + features_in t p) (first_node t (p + 1)) made.kept later more.0 (omega (arith, next_first t p table.0 is, count_of t p table.0 is, length_labels table.0)) made.is_kept c.in_ok-collect_around.ensures.later (subst (λ z. AreLeast z more.0) same more.1);

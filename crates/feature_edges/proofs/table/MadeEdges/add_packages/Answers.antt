@@ -4,10 +4,10 @@ use Rattle.feature_edges.specs.inner.Made.{AreMadeBelow}
 use Rattle.feature_edges.proofs.table.MadeEdges.add_packages.Goals as goal
 
 pub loop-ix-init : goal.loop-ix-init
-loop-ix-init c = (c.requires.made, c.requires.warnings, c.requires.near)
+loop-ix-init c = (c.requires.made, c.requires.warnings)
 
 pub loop-ix-preserved : goal.loop-ix-preserved
-loop-ix-preserved c = (c.in_ok-add_package.ensures.made, c.in_ok-add_package.ensures.warnings, c.in_ok-add_package.ensures.near)
+loop-ix-preserved c = (c.in_ok-add_package.ensures.made, c.in_ok-add_package.ensures.warnings)
 
 pub returns-clause-made : goal.returns-clause-made
 returns-clause-made c =

@@ -9,7 +9,7 @@ pub returns-in-FeatureToBase : goal.returns-in-FeatureToBase
 returns-in-FeatureToBase c = on_ok_weaker c.push_base.result
     (λ pushed t tables of_tables. record {
       says = base_edge;
-      appended = record { weak = refl; edges = pushed; ends = c.in_ok-push.ensures.pushed };
+      appended = record { weak = refl; last = refl; edges = pushed; ends = c.in_ok-push.ensures.pushed };
       value = λ rest. base_value t (names_differ t tables) (map (λ e. e.0) c.args.self.now.weak.entries ++ rest) c.args.key of_tables c.in-FeatureToBase.is;
     })
     c.push_base.ensures
@@ -18,7 +18,7 @@ pub returns-in_default : goal.returns-in_default
 returns-in_default c = on_ok_weaker c.push_named.result
     (λ pushed t tables of_tables. record {
       says = feature_edge;
-      appended = record { weak = refl; edges = pushed; ends = c.in_ok-push.ensures.pushed };
+      appended = record { weak = refl; last = refl; edges = pushed; ends = c.in_ok-push.ensures.pushed };
       value = λ rest.
           feature_value t (names_differ t tables) (map (λ e. e.0) c.args.self.now.weak.entries ++ rest) c.args.key of_tables
           (⊎_elim (λ base. absurd (c.in_default.not-FeatureToBase base)) (λ named. named) c.requires);

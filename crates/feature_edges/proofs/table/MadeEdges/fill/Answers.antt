@@ -1,4 +1,4 @@
-use Rattle.std.proofs.Common.{◌∙◌, inl, length, refl}
+use Rattle.std.proofs.Common.{◌∙◌, length, refl}
 use Rattle.std.proofs.lemmas.Result.{IfOk-weaker}
 use Rattle.feature_edges.proofs.PackageWarnings.{warnings-all}
 use Rattle.feature_edges.proofs.table.MadeEdges.fill.Goals as goal
@@ -10,8 +10,5 @@ returns-clause-warnings c =
     (λ found is. is ∙ warnings-all t (length t.packages) c.add_packages.new.room.collected c.facts.ensures refl c.in_ok-add_packages.ensures.warnings)
     c.into_warnings.ensures
 
-pub add_packages-requires-clause-near : goal.add_packages-requires-clause-near
-add_packages-requires-clause-near c = λ i x number h. inl (c.in_ok-room.ensures.near i x number h)
-
 pub add_packages-requires-clause-warnings : goal.add_packages-requires-clause-warnings
-add_packages-requires-clause-warnings c = c.in_ok-room.ensures.warnings c.args.material.numbers.graph.now
+add_packages-requires-clause-warnings c = c.new-room.ensures c.args.material.numbers.graph.now

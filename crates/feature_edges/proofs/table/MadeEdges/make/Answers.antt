@@ -7,6 +7,7 @@ returns c = record {
   says = edge_facts c.in_ok-edge.edge;
   appended = record {
     weak = refl;
+    last = refl;
     edges = c.in_ok-push-2.ensures;
     ends = c.in_ok-push.ensures.pushed ∙ ap (λ z. c.args.self.now.ends ++ z ∷ []) c.edge_end.ensures;
   };

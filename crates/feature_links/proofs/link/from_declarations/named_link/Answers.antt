@@ -1,12 +1,12 @@
-use Rattle.std.proofs.Common.{◌≡◌, ◌∙◌, ◌<◌, ℕ, List, [], ◌∷◌, Some, length, map, ap, sym, subst}
+use Rattle.std.proofs.Common.{◌≡◌, ◌∙◌, ◌<◌, ℕ, List, Some, length, ap, subst}
 use Rattle.std.specs.Prelude.{slice_get}
 use Rattle.std.proofs.lemmas.Result.{IfOk-weaker}
 use Rattle.guppy_packages.specs.Rows.{Text}
 use Rattle.guppy_packages.specs.Tables.{Tables}
 use Rattle.feature_labels.specs.declared.link_declarations.LinkDeclarations.{LinkDeclarations}
 use Rattle.feature_links.specs.Links.{by_name, includes, links_at, over}
-use Rattle.feature_links.specs.NamedLinks.{link_numbers, number_of}
-use Rattle.feature_links.proofs.LinkLemmas.{named_at, the_one}
+use Rattle.feature_links.specs.NamedLinks.{link_numbers}
+use Rattle.feature_links.proofs.LinkLemmas.{named_at}
 use Rattle.feature_links.proofs.GroupedLinks.{numbers_below}
 use Rattle.feature_links.proofs.link.from_declarations.named_link.Goals as goal
 
@@ -18,17 +18,8 @@ module _ (t : Tables) (p : ℕ) (name : Text) (numbers : List ℕ) (are : number
   by_numbers which = ap (λ z. over which (λ x. includes which x) (links_at t z)) are ∙ ap (over which (λ x. includes which x)) (named_at t p name)
 
 pub links_over-requires : goal.links_over-requires
-links_over-requires c = below c.args.graph.now c.args.package_ix c.args.name.now (c.number.result ∷ [])
-    (ap (λ z. z ∷ []) c.number.ensures ∙ sym (ap (map number_of) (the_one c.numbers_of-links.result.now _ c.in-len1.len_at_least c.in-len1.len_below)) ∙ c.numbers_of-links.ensures ∙ c.requires c.args.package_ix c.args.name.now)
-
-pub returns-in-len1 : goal.returns-in-len1
-returns-in-len1 c = IfOk-weaker c.links_over.result _ _ (λ l holds. holds ∙ by_numbers c.args.graph.now c.args.package_ix c.args.name.now (c.number.result ∷ [])
-    (ap (λ z. z ∷ []) c.number.ensures ∙ sym (ap (map number_of) (the_one c.numbers_of-links.result.now _ c.in-len1.len_at_least c.in-len1.len_below)) ∙ c.numbers_of-links.ensures ∙ c.requires c.args.package_ix c.args.name.now) c.args.which) c.links_over.ensures
-
-pub links_over-requires-2 : goal.links_over-requires-2
-links_over-requires-2 c = below c.args.graph.now c.args.package_ix c.args.name.now c.deref.result.now
-    (c.deref.ensures.value ∙ c.in_ok-numbers.ensures ∙ c.numbers_of-links.ensures ∙ c.requires c.args.package_ix c.args.name.now)
+links_over-requires c = below c.args.graph.now c.args.package_ix c.args.name.now c.numbers_of-links.result.now (c.numbers_of-links.ensures ∙ c.requires c.args.package_ix c.args.name.now)
 
 pub returns : goal.returns
-returns c = IfOk-weaker c.links_over-2.result _ _ (λ l holds. holds ∙ by_numbers c.args.graph.now c.args.package_ix c.args.name.now c.deref.result.now
-    (c.deref.ensures.value ∙ c.in_ok-numbers.ensures ∙ c.numbers_of-links.ensures ∙ c.requires c.args.package_ix c.args.name.now) c.args.which) c.links_over-2.ensures
+returns c = IfOk-weaker c.links_over.result _ _ (λ l holds. holds
+    ∙ by_numbers c.args.graph.now c.args.package_ix c.args.name.now c.numbers_of-links.result.now (c.numbers_of-links.ensures ∙ c.requires c.args.package_ix c.args.name.now) c.args.which) c.links_over.ensures

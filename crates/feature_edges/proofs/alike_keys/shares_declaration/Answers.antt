@@ -2,7 +2,7 @@ use Rattle.std.proofs.Common.{[]}
 use Rattle.feature_edges.proofs.KeyEdges.{told_section}
 use Rattle.feature_edges.proofs.MaterialLemmas.{link_within}
 use Rattle.feature_edges.proofs.PairLemmas.{names_differ}
-use Rattle.feature_edges.proofs.near_keys.shares_declaration.Goals as goal
+use Rattle.feature_edges.proofs.alike_keys.shares_declaration.Goals as goal
 
 pub is_single-requires : goal.is_single-requires
 is_single-requires c =
