@@ -16,19 +16,20 @@ use crate::candidate::{CandidateKind, Key};
 use crate::node_numbers::{Numbers, label_at};
 use feature_labels::{FeatureLabel, LinkDeclarations};
 use feature_links::{
-    ConditionalLinkImpl, FeatureEdge, LinkGroups, WeakIndex, WeakSlashImpl, half_of, link_of,
-    named_link, section_link,
+    ConditionalLinkImpl, FeatureEdge, LinkGroups, SharedStatuses, WeakIndex, WeakSlashImpl, half_of,
+    link_of, named_link, section_link,
 };
 use indexmap::IndexMap;
 use std::alloc::{AllocError, Global};
 
-/// The input for edges: the numbers of nodes, the package of each node, the links by package and name, the node of each package's
-/// feature `default`, and the gate of each package link.
+/// The input for edges: the numbers of nodes, the package of each node, the links by package and name, statuses that links
+/// share, the node of each package's feature `default`, and the gate of each package link.
 #[derive(Clone, Copy)]
 pub(crate) struct Material<'a, 'g> {
     pub(crate) numbers: Numbers<'g>,
     pub(crate) packages: &'a [u32],
     pub(crate) groups: &'a LinkGroups<'g>,
+    pub(crate) statuses: &'a SharedStatuses,
     pub(crate) defaults: &'a [u32],
     pub(crate) gates: &'a [u32],
 }
@@ -67,6 +68,7 @@ fn link_to(
         alloc,
         material.numbers.graph,
         material.groups,
+        material.statuses,
         package_ix,
         name,
         which,
@@ -165,6 +167,7 @@ fn full_edge(alloc: Global, material: Material<'_, '_>, key: Key) -> Result<Feat
     let link = link_of(
         alloc,
         material.numbers.graph,
+        material.statuses,
         key.source as usize,
         LinkDeclarations::Unsplit,
     )?;
@@ -188,18 +191,21 @@ fn weak_edge(
     let link = link_of(
         alloc,
         material.numbers.graph,
+        material.statuses,
         key.source as usize,
         LinkDeclarations::Unsplit,
     )?;
     let required = half_of(
         alloc,
         material.numbers.graph,
+        material.statuses,
         key.source as usize,
         LinkDeclarations::Required,
     )?;
     let optional = half_of(
         alloc,
         material.numbers.graph,
+        material.statuses,
         key.source as usize,
         LinkDeclarations::Optional,
     )?;
@@ -231,6 +237,7 @@ fn section_edge_at(
     let link = section_link(
         alloc,
         material.numbers.graph,
+        material.statuses,
         key.source as usize,
         which,
         places,

@@ -29,7 +29,7 @@ use crate::node_numbers::Numbers;
 use crate::nodes::NodeTable;
 use crate::pool::EdgeList;
 use crate::warnings::FeatureGraphWarning;
-use feature_links::{FeatureEdge, LinkGroups};
+use feature_links::{FeatureEdge, LinkGroups, SharedStatuses};
 use guppy_packages::PackageGraph;
 use guppy_support::{Digraph, Edge, EdgeColumns};
 use indexmap::IndexMap;
@@ -369,10 +369,12 @@ pub fn edge_table(
     numbers.graph.facts();
     let defaults = default_nodes(alloc, numbers)?;
     let gates = gate_nodes(alloc, numbers)?;
+    let statuses = SharedStatuses::new(alloc)?;
     let material = Material {
         numbers,
         packages: table.packages.as_slice(),
         groups,
+        statuses: &statuses,
         defaults: defaults.as_slice(),
         gates: gates.as_slice(),
     };

@@ -10,17 +10,18 @@ mod held;
 mod statuses;
 
 use crate::link::held::LinkStatuses;
+pub use crate::link::held::SharedStatuses;
 use feature_labels::LinkDeclarations;
-use guppy_packages::{DependencyKind, PlatformStatus};
+use guppy_packages::PlatformStatus;
 use smallvec::SmallVec;
 use std::alloc::{AllocError, Global};
 use std::fmt;
+use std::rc::Rc;
 
 /// The link of a conditional edge: the declarations that it covers, their platforms for each kind of dependency, and the package
-/// links that have one of them.
+/// links that have one of them. Links share equal platforms.
 pub struct ConditionalLinkImpl {
-    declarations: LinkDeclarations,
-    statuses: LinkStatuses,
+    statuses: Rc<LinkStatuses>,
     package_link_ixs: SmallVec<usize, 1>,
 }
 
@@ -28,7 +29,6 @@ impl Drop for ConditionalLinkImpl {
     // Written out, so that a crate above calls it. A derived drop is proved in each crate that drops a value, with those of all fields.
     fn drop(self) {
         let ConditionalLinkImpl {
-            declarations: _declarations,
             statuses: _statuses,
             package_link_ixs: _package_link_ixs,
         } = self;
@@ -40,28 +40,28 @@ impl ConditionalLinkImpl {
     pub fn declarations(&self) -> LinkDeclarations
         ensures { result ≡ (link_facts self.now).declarations }
     {
-        self.declarations
+        self.statuses.declarations
     }
 
     /// Returns the platforms of the covered declarations for normal use.
     pub fn normal(&self) -> PlatformStatus<'_>
         ensures { status_of result ≡ (link_facts self.now).normal }
     {
-        self.statuses.status(DependencyKind::Normal)
+        self.statuses.normal.get()
     }
 
     /// Returns the platforms of the covered declarations for build scripts.
     pub fn build(&self) -> PlatformStatus<'_>
         ensures { status_of result ≡ (link_facts self.now).build }
     {
-        self.statuses.status(DependencyKind::Build)
+        self.statuses.build.get()
     }
 
     /// Returns the platforms of the covered declarations for development.
     pub fn dev(&self) -> PlatformStatus<'_>
         ensures { status_of result ≡ (link_facts self.now).dev }
     {
-        self.statuses.status(DependencyKind::Development)
+        self.statuses.dev.get()
     }
 
     /// Returns the numbers of the package links that have a covered declaration, ascending.
@@ -89,10 +89,9 @@ impl ConditionalLinkImpl {
     pub fn try_clone(&self, alloc: Global) -> Result<ConditionalLinkImpl, AllocError>
         ensures { IfOk result (λ link. link_facts link ≡ link_facts self.now) }
     {
-        let statuses = self.statuses.try_clone()?;
+        let statuses = self.statuses.clone()?;
         let package_link_ixs = SmallVec::from_slice(alloc, self.package_link_ixs.as_slice())?;
         Ok(ConditionalLinkImpl {
-            declarations: self.declarations,
             statuses,
             package_link_ixs,
         })

@@ -1,11 +1,12 @@
 -- The state of a link under construction.
-use Rattle.std.specs.Prelude.{◌≡◌, ℕ, List, None, Some, true, not, Option, map, filter, filter_map, flat_map}
+use Rattle.std.specs.Prelude.{◌≡◌, ℕ, List, None, Some, true, not, Option, if◌then◌else◌, map, filter, filter_map, flat_map}
 use Rattle.std.specs.List.{list_any}
 use Rattle.std.specs.Option.{is_some}
 use Rattle.std.specs.Str.{bytes_eq}
 use Rattle.std.specs.Borrow.{Bor}
 use Rattle.indexmap.specs.IndexSet.{IndexSet}
 use Rattle.guppy_packages.specs.Graph.{firsts}
+use Rattle.guppy_packages.specs.Platform.{always_status, never_status}
 use Rattle.guppy_packages.specs.Rows.{Text, Declared}
 use Rattle.guppy_packages.specs.declared.row.DependencyKind.TheVariants.{Normal, Build, Development}
 use Rattle.feature_links.specs.declared.link.statuses.StatusCollector.{StatusCollector}
@@ -14,14 +15,14 @@ use Rattle.feature_links.specs.declared.link.from_declarations.LinkParts.{LinkPa
 use Rattle.feature_labels.specs.declared.link_declarations.LinkDeclarations.{LinkDeclarations}
 use Rattle.guppy_packages.specs.Tables.{LinkTable}
 use Rattle.feature_links.specs.Links.{platforms_of, platforms_status, includes, at_places}
-use Rattle.feature_links.specs.Values.{KindStatuses}
+use Rattle.feature_links.specs.Values.{StatusFacts, held_status}
 
 abbrev pub texts_in : {S : Type 0} → IndexSet (Bor (List ℕ)) S → List Text
 texts_in set = map (λ t. t.now) set.keys
 
--- `c` has collected `platforms`: whether one of them is all platforms, and each spec once, by first appearance.
+-- `c` has collected `platforms`: always if one of them is all platforms, and each spec once, by first appearance.
 pub record HasPlatforms (c : StatusCollector) (platforms : List (Option Text)) : Type 0 where
-  pub always : c.always ≡ list_any (λ p. not (is_some p)) platforms
+  pub always : held_status c.always ≡ (if list_any (λ p. not (is_some p)) platforms then always_status else never_status)
   pub specs : texts_in c.specs ≡ firsts bytes_eq (filter_map (λ p. p) platforms)
 
 -- Each kind has collected the platforms of its declarations.
@@ -31,8 +32,9 @@ pub record HasKinds (c : KindCollectors) (declarations : List Declared) : Type 0
   pub dev : HasPlatforms c.dev (platforms_of Development declarations)
 
 -- The statuses of these declarations.
-abbrev pub statuses_over : List Declared → KindStatuses
-statuses_over declarations = record {
+abbrev pub statuses_over : LinkDeclarations → List Declared → StatusFacts
+statuses_over which declarations = record {
+  declarations = which;
   normal = platforms_status (platforms_of Normal declarations);
   build = platforms_status (platforms_of Build declarations);
   dev = platforms_status (platforms_of Development declarations);

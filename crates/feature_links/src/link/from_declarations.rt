@@ -10,7 +10,7 @@ ghost use Rattle.feature_links.specs.inner.Collected.{HasKinds, HasParts, wanted
 ghost use Rattle.feature_links.specs.NamedLinks.{AreNamedLinks};
 ghost use Rattle.feature_links.specs.Values.{link_facts, half_facts};
 
-use crate::link::held::LinkStatuses;
+use crate::link::held::{LinkStatuses, SharedStatuses};
 use crate::link::statuses::KindCollectors;
 use crate::link::{ConditionalLinkImpl, EnabledLink};
 use crate::link_groups::LinkGroups;
@@ -164,8 +164,7 @@ impl<'g> LinkParts<'g> {
     {
         let LinkParts { statuses, links } = self;
         Ok(ConditionalLinkImpl {
-            declarations: which,
-            statuses: statuses.statuses(alloc)?,
+            statuses: statuses.statuses(alloc, which)?,
             package_link_ixs: links,
         })
     }
@@ -222,6 +221,7 @@ fn collected(
 /// Returns the link over one declaration of package link `link_ix`.
 fn link_over_one(
     alloc: Global,
+    shared: &SharedStatuses,
     link_ix: usize,
     which: LinkDeclarations,
     declaration: &Declaration,
@@ -229,8 +229,7 @@ fn link_over_one(
     ensures { IfOk result (λ l. link_facts l ≡ over_parts which ((link_ix, declared declaration.now ∷ []) ∷ [])) }
 {
     Ok(ConditionalLinkImpl {
-        declarations: which,
-        statuses: LinkStatuses::of_one(declaration)?,
+        statuses: LinkStatuses::of_one(alloc, shared, which, declaration)?,
         package_link_ixs: SmallVec::from_buf(alloc, [link_ix]),
     })
 }
@@ -252,6 +251,7 @@ fn only_included(which: LinkDeclarations, declarations: &[Declaration]) -> Optio
 fn links_over(
     alloc: Global,
     graph: &PackageGraph,
+    shared: &SharedStatuses,
     links: &[usize],
     which: LinkDeclarations,
 ) -> Result<ConditionalLinkImpl, AllocError>
@@ -261,7 +261,7 @@ fn links_over(
     if let [link_ix] = links {
         let declarations = graph.link(*link_ix).declarations();
         if let Some(declaration) = only_included(which, declarations) {
-            return link_over_one(alloc, *link_ix, which, declaration);
+            return link_over_one(alloc, shared, *link_ix, which, declaration);
         }
     }
     collected(alloc, graph, links, which, None)
@@ -271,6 +271,7 @@ fn links_over(
 pub fn link_of(
     alloc: Global,
     graph: &PackageGraph,
+    shared: &SharedStatuses,
     link_ix: usize,
     which: LinkDeclarations,
 ) -> Result<ConditionalLinkImpl, AllocError>
@@ -278,7 +279,7 @@ pub fn link_of(
     ensures { IfOk result (λ l. (link : LinkTable) → IsLink graph.now link_ix link → link_facts l ≡ over which (λ d. includes which d) ((link_ix, link) ∷ [])) }
 {
     let links = [link_ix];
-    links_over(alloc, graph, &links, which)
+    links_over(alloc, graph, shared, &links, which)
 }
 
 /// Returns the half of a weak edge over the declarations of package link `link_ix` that `which` covers. `AllocError` is the only
@@ -286,6 +287,7 @@ pub fn link_of(
 pub fn half_of(
     alloc: Global,
     graph: &PackageGraph,
+    shared: &SharedStatuses,
     link_ix: usize,
     which: LinkDeclarations,
 ) -> Result<EnabledLink, AllocError>
@@ -295,7 +297,7 @@ pub fn half_of(
     if !is_any_included(which, graph.link(link_ix).declarations()) {
         return Ok(EnabledLink { link: None });
     }
-    let link = link_of(alloc, graph, link_ix, which)?;
+    let link = link_of(alloc, graph, shared, link_ix, which)?;
     Ok(EnabledLink { link: Some(link) })
 }
 
@@ -305,6 +307,7 @@ pub fn named_link(
     alloc: Global,
     graph: &PackageGraph,
     groups: &LinkGroups<'_>,
+    shared: &SharedStatuses,
     package_ix: usize,
     name: &str,
     which: LinkDeclarations,
@@ -313,7 +316,7 @@ pub fn named_link(
     ensures { IfOk result (λ l. link_facts l ≡ by_name graph.now package_ix which name.now) }
 {
     let links = numbers_of(groups, package_ix, name);
-    links_over(alloc, graph, links, which)
+    links_over(alloc, graph, shared, links, which)
 }
 
 /// Returns the link over the declarations at `places` of package link `link_ix`. A single declaration is not collected.
@@ -321,6 +324,7 @@ pub fn named_link(
 pub fn section_link(
     alloc: Global,
     graph: &PackageGraph,
+    shared: &SharedStatuses,
     link_ix: usize,
     which: LinkDeclarations,
     places: &[usize],
@@ -332,7 +336,7 @@ pub fn section_link(
     if let [place] = places
         && *place < declarations.len()
     {
-        return link_over_one(alloc, link_ix, which, &declarations[*place]);
+        return link_over_one(alloc, shared, link_ix, which, &declarations[*place]);
     }
     let links = [link_ix];
     collected(alloc, graph, &links, which, Some(places))

@@ -1,160 +1,200 @@
-//! The compact storage of a link's statuses.
-ghost use Rattle.std.specs.Prelude.{◌≡◌, ◌∷◌, [], None, IfOk, IfSome};
-ghost use Rattle.guppy_packages.specs.Platform.{impl_status, status_of};
-ghost use Rattle.guppy_packages.specs.Rows.{Declared};
+//! The statuses of links, which are shared where they are equal.
+ghost use Rattle.std.specs.Prelude.{◌≡◌, ◌∷◌, [], IfOk};
+ghost use Rattle.guppy_packages.specs.Platform.{always_status, impl_status, never_status, status_of};
 ghost use Rattle.guppy_packages.specs.Stored.{declared};
-ghost use Rattle.feature_links.specs.Values.{at_kind, full_statuses, plain_status, statuses_of};
+ghost use Rattle.feature_links.specs.Values.{held_status, statuses_of};
 ghost use Rattle.feature_links.specs.inner.Collected.{statuses_over};
+ghost use Rattle.feature_links.specs.inner.Shared.{AreShared, kind_over};
 
+use feature_labels::LinkDeclarations;
 use guppy_packages::{Declaration, DependencyKind, PlatformStatus, PlatformStatusImpl};
 use std::alloc::{AllocError, Global};
 use std::rc::Rc;
 
-/// The status of a link for each kind of dependency.
+/// The status of a link for one kind of dependency: its platforms, which declarations and links share, or `None` for no platform.
 #[derive(Drop)]
-pub(crate) enum LinkStatuses {
-    /// Each kind on all platforms (`true`) or on none (`false`).
-    Plain {
-        normal: bool,
-        build: bool,
-        dev: bool,
-    },
-    /// The kind of one declaration on its platforms, which are shared with it. The other kinds are on none.
-    One {
-        kind: DependencyKind,
-        platform: Rc<PlatformStatusImpl>,
-    },
-    /// Any statuses.
-    Full(Rc<FullStatuses>),
+pub(crate) struct HeldStatus {
+    platform: Option<Rc<PlatformStatusImpl>>,
 }
 
-/// A status for each kind of dependency.
+impl HeldStatus {
+    /// Returns the status on no platform.
+    pub(crate) fn never() -> Self
+        ensures { held_status result ≡ never_status }
+    {
+        HeldStatus { platform: None }
+    }
+
+    /// Returns the status `platform`.
+    pub(crate) fn new(platform: Rc<PlatformStatusImpl>) -> Self
+        ensures { held_status result ≡ impl_status platform.value }
+    {
+        HeldStatus {
+            platform: Some(platform),
+        }
+    }
+
+    /// Returns the status.
+    pub(crate) fn get(&self) -> PlatformStatus<'_>
+        ensures { status_of result ≡ held_status self.now }
+    {
+        match &self.platform {
+            Some(platform) => PlatformStatus::new(platform.as_ref()),
+            None => PlatformStatus::Never,
+        }
+    }
+
+    /// Returns an equal status, which shares its platforms with this. `AllocError` is the only error, and means that they have as many
+    /// owners as fit.
+    pub(crate) fn try_clone(&self) -> Result<HeldStatus, AllocError>
+        ensures { IfOk result (λ status. held_status status ≡ held_status self.now) }
+    {
+        match &self.platform {
+            Some(platform) => Ok(HeldStatus {
+                platform: Some(platform.clone()?),
+            }),
+            None => Ok(HeldStatus { platform: None }),
+        }
+    }
+}
+
+/// The declarations that a link covers, and its status for each kind of dependency.
 #[derive(Drop)]
-pub(crate) struct FullStatuses {
-    pub(crate) normal: PlatformStatusImpl,
-    pub(crate) build: PlatformStatusImpl,
-    pub(crate) dev: PlatformStatusImpl,
-}
-
-/// Returns the status on all platforms if `always` is true, and otherwise on none.
-fn status_where(always: bool) -> PlatformStatus<'static>
-    ensures { status_of result ≡ plain_status always }
-{
-    if always {
-        PlatformStatus::Always
-    } else {
-        PlatformStatus::Never
-    }
-}
-
-/// Returns whether `status` is on all platforms, or `None` if it depends on the platform.
-fn plain_of(status: &PlatformStatusImpl) -> Option<bool>
-    ensures { IfSome result (λ always. plain_status always ≡ impl_status status.now) }
-{
-    match PlatformStatus::new(status) {
-        PlatformStatus::Never => Some(false),
-        PlatformStatus::PlatformDependent(_) => None,
-        PlatformStatus::Always => Some(true),
-    }
-}
-
-impl FullStatuses {
-    /// Returns the statuses as `Plain`, or `None` if one depends on the platform.
-    fn plain(&self) -> Option<LinkStatuses>
-        ensures { IfSome result (λ statuses. statuses_of statuses ≡ full_statuses self.now) }
-    {
-        let normal = plain_of(&self.normal)?;
-        let build = plain_of(&self.build)?;
-        let dev = plain_of(&self.dev)?;
-        Some(LinkStatuses::Plain { normal, build, dev })
-    }
-
-    /// Returns the status of `kind`.
-    fn status(&self, kind: DependencyKind) -> PlatformStatus<'_>
-        ensures { status_of result ≡ at_kind kind (full_statuses self.now) }
-    {
-        PlatformStatus::new(match kind {
-            DependencyKind::Normal => &self.normal,
-            DependencyKind::Build => &self.build,
-            DependencyKind::Development => &self.dev,
-        })
-    }
+pub(crate) struct LinkStatuses {
+    pub(crate) declarations: LinkDeclarations,
+    pub(crate) normal: HeldStatus,
+    pub(crate) build: HeldStatus,
+    pub(crate) dev: HeldStatus,
 }
 
 impl LinkStatuses {
-    /// Returns the statuses `full`, in the smallest form. `AllocError` is the only error.
-    pub(crate) fn new(alloc: Global, full: FullStatuses) -> Result<LinkStatuses, AllocError>
-        ensures { IfOk result (λ statuses. statuses_of statuses ≡ full_statuses full) }
+    /// Returns the status `only` for `kind`, and no platform for the other kinds.
+    fn of_kind(which: LinkDeclarations, kind: DependencyKind, only: HeldStatus) -> LinkStatuses
+        ensures { statuses_of result ≡ kind_over which kind (held_status only) }
     {
-        match full.plain() {
-            Some(plain) => Ok(plain),
-            None => Ok(LinkStatuses::Full(Rc::new(alloc, full)?)),
+        match kind {
+            DependencyKind::Normal => LinkStatuses {
+                declarations: which,
+                normal: only,
+                build: HeldStatus::never(),
+                dev: HeldStatus::never(),
+            },
+            DependencyKind::Build => LinkStatuses {
+                declarations: which,
+                normal: HeldStatus::never(),
+                build: only,
+                dev: HeldStatus::never(),
+            },
+            DependencyKind::Development => LinkStatuses {
+                declarations: which,
+                normal: HeldStatus::never(),
+                build: HeldStatus::never(),
+                dev: only,
+            },
         }
     }
 
-    /// Returns the statuses of a declaration with the kind `kind` that applies on all platforms.
-    fn everywhere(kind: DependencyKind) -> LinkStatuses
-        ensures { (d : Declared) → d.kind ≡ kind → d.platform ≡ None → statuses_of result ≡ statuses_over (d ∷ []) }
+    /// Returns the statuses of a declaration of `kind` on all platforms.
+    fn always(
+        alloc: Global,
+        which: LinkDeclarations,
+        kind: DependencyKind,
+    ) -> Result<Rc<LinkStatuses>, AllocError>
+        ensures { IfOk result (λ s. statuses_of s.value ≡ kind_over which kind always_status) }
     {
-        LinkStatuses::Plain {
-            normal: kind == DependencyKind::Normal,
-            build: kind == DependencyKind::Build,
-            dev: kind == DependencyKind::Development,
-        }
+        let platform = Rc::new(alloc, PlatformStatusImpl::Always)?;
+        let statuses = LinkStatuses::of_kind(which, kind, HeldStatus::new(platform));
+        Ok(Rc::new(alloc, statuses)?)
     }
 
     /// Returns the statuses of one declaration. `AllocError` is the only error.
-    pub(crate) fn of_one(declaration: &Declaration) -> Result<LinkStatuses, AllocError>
-        ensures { IfOk result (λ statuses. statuses_of statuses ≡ statuses_over (declared declaration.now ∷ [])) }
+    pub(crate) fn of_one(
+        alloc: Global,
+        shared: &SharedStatuses,
+        which: LinkDeclarations,
+        declaration: &Declaration,
+    ) -> Result<Rc<LinkStatuses>, AllocError>
+        ensures { IfOk result (λ s. statuses_of s.value ≡ statuses_over which (declared declaration.now ∷ [])) }
     {
         let kind = declaration.kind();
         if let PlatformStatusImpl::Always = declaration.platform() {
-            return Ok(LinkStatuses::everywhere(kind));
+            return shared.always(which, kind);
         }
-        let platform = declaration.shared_platform()?;
-        Ok(LinkStatuses::One { kind, platform })
+        let only = HeldStatus::new(declaration.shared_platform()?);
+        let statuses = LinkStatuses::of_kind(which, kind, only);
+        Ok(Rc::new(alloc, statuses)?)
+    }
+}
+
+/// The statuses of a declaration on all platforms, for each kind.
+#[derive(Drop)]
+struct KindShares {
+    normal: Rc<LinkStatuses>,
+    build: Rc<LinkStatuses>,
+    dev: Rc<LinkStatuses>,
+}
+
+impl KindShares {
+    /// Returns the statuses for links that cover the declarations `which`.
+    fn new(alloc: Global, which: LinkDeclarations) -> Result<KindShares, AllocError>
+        ensures { IfOk result (λ s. AreShared which s) }
+    {
+        let normal = LinkStatuses::always(alloc, which, DependencyKind::Normal)?;
+        let build = LinkStatuses::always(alloc, which, DependencyKind::Build)?;
+        let dev = LinkStatuses::always(alloc, which, DependencyKind::Development)?;
+        Ok(KindShares { normal, build, dev })
+    }
+}
+
+/// The statuses of links over one declaration on all platforms, by the declarations that the link covers and by the kind. Such links
+/// share them.
+#[derive(Drop)]
+pub struct SharedStatuses {
+    unsplit: KindShares,
+    required: KindShares,
+    optional: KindShares,
+    ghost unsplit_is: { AreShared LinkDeclarations.Unsplit unsplit },
+    ghost required_is: { AreShared LinkDeclarations.Required required },
+    ghost optional_is: { AreShared LinkDeclarations.Optional optional },
+}
+
+impl SharedStatuses {
+    /// Returns the statuses. `AllocError` is the only error.
+    pub fn new(alloc: Global) -> Result<SharedStatuses, AllocError> {
+        let unsplit = KindShares::new(alloc, LinkDeclarations::Unsplit)?;
+        let required = KindShares::new(alloc, LinkDeclarations::Required)?;
+        let optional = KindShares::new(alloc, LinkDeclarations::Optional)?;
+        Ok(SharedStatuses {
+            unsplit,
+            required,
+            optional,
+        })
     }
 
-    /// Returns the status of `kind`.
-    pub(crate) fn status(&self, kind: DependencyKind) -> PlatformStatus<'_>
-        ensures { status_of result ≡ at_kind kind (statuses_of self.now) }
+    /// Returns the statuses by kind of links that cover the declarations `which`.
+    fn by_kind(&self, which: LinkDeclarations) -> &KindShares
+        ensures { AreShared which result.now }
     {
-        match self {
-            LinkStatuses::Plain { normal, build, dev } => status_where(match kind {
-                DependencyKind::Normal => *normal,
-                DependencyKind::Build => *build,
-                DependencyKind::Development => *dev,
-            }),
-            LinkStatuses::One {
-                kind: only,
-                platform,
-            } => {
-                if *only == kind {
-                    PlatformStatus::new(platform.as_ref())
-                } else {
-                    PlatformStatus::Never
-                }
-            }
-            LinkStatuses::Full(full) => full.status(kind),
+        match which {
+            LinkDeclarations::Unsplit => &self.unsplit,
+            LinkDeclarations::Required => &self.required,
+            LinkDeclarations::Optional => &self.optional,
         }
     }
 
-    /// Returns equal statuses, which share their platforms with these. `AllocError` is the only error, and means that they have as many
-    /// owners as fit.
-    pub(crate) fn try_clone(&self) -> Result<LinkStatuses, AllocError>
-        ensures { IfOk result (λ statuses. statuses_of statuses ≡ statuses_of self.now) }
+    /// Returns the statuses of a declaration of `kind` on all platforms. `AllocError` means that they have as many owners as fit.
+    fn always(
+        &self,
+        which: LinkDeclarations,
+        kind: DependencyKind,
+    ) -> Result<Rc<LinkStatuses>, AllocError>
+        ensures { IfOk result (λ s. statuses_of s.value ≡ kind_over which kind always_status) }
     {
-        match self {
-            LinkStatuses::Plain { normal, build, dev } => Ok(LinkStatuses::Plain {
-                normal: *normal,
-                build: *build,
-                dev: *dev,
-            }),
-            LinkStatuses::One { kind, platform } => Ok(LinkStatuses::One {
-                kind: *kind,
-                platform: platform.clone()?,
-            }),
-            LinkStatuses::Full(full) => Ok(LinkStatuses::Full(full.clone()?)),
+        let statuses = self.by_kind(which);
+        match kind {
+            DependencyKind::Normal => statuses.normal.clone(),
+            DependencyKind::Build => statuses.build.clone(),
+            DependencyKind::Development => statuses.dev.clone(),
         }
     }
 }

@@ -1,28 +1,29 @@
 //! Collecting the statuses of declarations, one for each kind of dependency.
 ghost use Rattle.std.specs.Prelude.{◌≡◌, ◌++◌, ◌∷◌, [], List, Option, map, IfOk, OnOk};
-ghost use Rattle.std.specs.Option.{option_map};
 ghost use Rattle.std.specs.Str.{bytes_eq};
 ghost use Rattle.guppy_packages.specs.Graph.{firsts};
-ghost use Rattle.guppy_packages.specs.Platform.{platform_specs, impl_status, spec_text};
+ghost use Rattle.guppy_packages.specs.Platform.{spec_text};
 ghost use Rattle.guppy_packages.specs.Rows.{Text, Declared};
 ghost use Rattle.guppy_packages.specs.Stored.{declared};
 ghost use Rattle.feature_links.specs.Links.{platforms_status};
 ghost use Rattle.feature_links.specs.inner.Collected.{HasPlatforms, HasKinds, statuses_over, texts_in};
-ghost use Rattle.feature_links.specs.Values.{statuses_of};
+ghost use Rattle.feature_links.specs.Values.{held_status, statuses_of};
 
-use crate::link::held::{FullStatuses, LinkStatuses};
+use crate::link::held::{HeldStatus, LinkStatuses};
+use feature_labels::LinkDeclarations;
 use guppy_packages::{Declaration, DependencyKind, PlatformStatusImpl, Spec};
 use indexmap::IndexSet;
 use std::alloc::{AllocError, Global};
 use std::hash::{BuildHasherDefault, DefaultHasher};
+use std::rc::Rc;
 
 /// A set of texts from outside. It hashes by SipHash with a fixed key, so collisions don't follow a simple pattern.
 type TextSet<T> = IndexSet<T, BuildHasherDefault<DefaultHasher>>;
 
-/// The platforms so far: whether a declaration applies on all, and the specs in the order of first appearance.
+/// The platforms so far: the status of a declaration that applies on all, or never, and the specs in the order of first appearance.
 #[derive(Drop)]
 pub(crate) struct StatusCollector<'g> {
-    always: bool,
+    always: HeldStatus,
     specs: TextSet<&'g str>,
 }
 
@@ -54,33 +55,37 @@ impl<'g> StatusCollector<'g> {
         ensures { HasPlatforms result [] }
     {
         StatusCollector {
-            always: false,
+            always: HeldStatus::never(),
             specs: IndexSet::with_hasher(alloc, BuildHasherDefault::new()),
         }
     }
 
-    /// Adds the platforms of a declaration.
-    fn add(&mut self, platform: &'g PlatformStatusImpl) -> Result<(), AllocError>
-        ensures { OnOk result ((p : Option Text) (before : List (Option Text)) → platform_specs platform.now ≡ option_map (λ spec. spec ∷ []) p → HasPlatforms self.old before → HasPlatforms self.new (before ++ p ∷ [])) }
+    /// Adds the platforms of `declaration`.
+    fn add(&mut self, declaration: &'g Declaration) -> Result<(), AllocError>
+        ensures { OnOk result ((before : List (Option Text)) → HasPlatforms self.old before → HasPlatforms self.new (before ++ (declared declaration.now).platform ∷ [])) }
     {
-        match platform {
+        match declaration.platform() {
             PlatformStatusImpl::Always => {
-                self.always = true;
+                self.always = HeldStatus::new(declaration.shared_platform()?);
                 Ok(())
             }
             PlatformStatusImpl::Specs(specs) => insert_all(&mut self.specs, specs.as_slice()),
         }
     }
 
-    /// Returns the status that joins the platforms. If it is `Always`, no text is copied.
-    fn status(&self, alloc: Global) -> Result<PlatformStatusImpl, AllocError>
-        ensures { IfOk result (λ status. (platforms : List (Option Text)) → HasPlatforms self.now platforms → impl_status status ≡ platforms_status platforms) }
+    /// Returns the status that joins the platforms. If it is `Always`, it is shared with a declaration.
+    fn status(&self, alloc: Global) -> Result<HeldStatus, AllocError>
+        ensures { IfOk result (λ status. (platforms : List (Option Text)) → HasPlatforms self.now platforms → held_status status ≡ platforms_status platforms) }
     {
-        if self.always {
-            return Ok(PlatformStatusImpl::Always);
+        if self.always.get().is_always() {
+            return self.always.try_clone();
+        }
+        if self.specs.is_empty() {
+            return Ok(HeldStatus::never());
         }
         let specs = specs_of(alloc, &self.specs)?;
-        Ok(PlatformStatusImpl::Specs(specs))
+        let joined = Rc::new(alloc, PlatformStatusImpl::Specs(specs))?;
+        Ok(HeldStatus::new(joined))
     }
 }
 
@@ -108,20 +113,31 @@ impl<'g> KindCollectors<'g> {
     pub(crate) fn add(&mut self, declaration: &'g Declaration) -> Result<(), AllocError>
         ensures { OnOk result ((before : List Declared) → HasKinds self.old before → HasKinds self.new (before ++ declared declaration.now ∷ [])) }
     {
-        let platform = declaration.platform();
         match declaration.kind() {
-            DependencyKind::Normal => self.normal.add(platform),
-            DependencyKind::Build => self.build.add(platform),
-            DependencyKind::Development => self.dev.add(platform),
+            DependencyKind::Normal => self.normal.add(declaration),
+            DependencyKind::Build => self.build.add(declaration),
+            DependencyKind::Development => self.dev.add(declaration),
         }
     }
-    /// Returns the statuses that join the platforms of each kind. `AllocError` is the only error.
-    pub(crate) fn statuses(&self, alloc: Global) -> Result<LinkStatuses, AllocError>
-        ensures { IfOk result (λ statuses. (declarations : List Declared) → HasKinds self.now declarations → statuses_of statuses ≡ statuses_over declarations) }
+
+    /// Returns the statuses that join the platforms of each kind; `which` is recorded as the declarations that the link covers.
+    /// `AllocError` is the only error.
+    pub(crate) fn statuses(
+        &self,
+        alloc: Global,
+        which: LinkDeclarations,
+    ) -> Result<Rc<LinkStatuses>, AllocError>
+        ensures { IfOk result (λ s. (declarations : List Declared) → HasKinds self.now declarations → statuses_of s.value ≡ statuses_over which declarations) }
     {
         let normal = self.normal.status(alloc)?;
         let build = self.build.status(alloc)?;
         let dev = self.dev.status(alloc)?;
-        LinkStatuses::new(alloc, FullStatuses { normal, build, dev })
+        let statuses = LinkStatuses {
+            declarations: which,
+            normal,
+            build,
+            dev,
+        };
+        Ok(Rc::new(alloc, statuses)?)
     }
 }

@@ -1,16 +1,21 @@
-use Rattle.std.proofs.Common.{◌≡◌, ◌∙◌, ◌∷◌, [], Option, None, Some, ap, sym, refl}
-use Rattle.std.specs.Option.{option_map}
-use Rattle.guppy_packages.specs.Platform.{platform_specs}
-use Rattle.guppy_packages.specs.Rows.{Text}
+use Rattle.std.proofs.Common.{◌≡◌, ◌∙◌, ◌∷◌, [], ap, sym}
+use Rattle.guppy_packages.specs.Platform.{always_status, platform_specs}
 use Rattle.guppy_packages.specs.Stored.{declared}
+use Rattle.std.proofs.lemmas.Result.{IfOk-weaker}
+use Rattle.feature_links.specs.Links.{platforms_status}
+use Rattle.feature_links.specs.Values.{held_status}
+use Rattle.feature_links.specs.inner.Shared.{kind_over}
+use Rattle.feature_links.proofs.StatusLemmas.{none_always, one_over, one_status}
 use Rattle.feature_links.proofs.link.held.LinkStatuses.of_one.Goals as goal
 
--- a declaration without a spec applies on all platforms
-everywhere : (p : Option Text) → None ≡ option_map (λ (spec : Text). spec ∷ []) p → p ≡ None
-everywhere None e = refl
-everywhere (Some t) e = cc
-
 pub returns-in-Always : goal.returns-in-Always
-returns-in-Always c =
+returns-in-Always c = IfOk-weaker c.always.result _ _ (λ s is.
     let d = declared c.args.declaration.now in
-    c.everywhere.ensures d (sym c.kind-kind.ensures) (everywhere d.platform (sym (ap platform_specs c.in-Always.is) ∙ c.platform.ensures))
+    is
+    ∙ ap (λ z. kind_over c.args.which z always_status) c.kind-kind.ensures
+    ∙ one_over c.args.which d always_status (none_always d.platform (sym (ap platform_specs c.in-Always.is) ∙ c.platform.ensures))) c.always.ensures
+
+pub returns : goal.returns
+returns c =
+    let d = declared c.args.declaration.now in
+    ?

@@ -11,7 +11,7 @@ returns-in-Normal c = on_ok_weaker c.add.result (λ holds before h.
     let d = declared c.args.declaration.now in
     let kind : d.kind ≡ Normal = sym c.kind.ensures ∙ c.in-Normal.is in
     record {
-      normal = kind_grown Normal d c.add.new.self before (ap (is_kind Normal) kind) (holds d.platform (platforms_of Normal before) c.platform-platform.ensures h.normal);
+      normal = kind_grown Normal d c.add.new.self before (ap (is_kind Normal) kind) (holds (platforms_of Normal before) h.normal);
       build = kind_kept Build d c.args.self.now.build before (ap (is_kind Build) kind) h.build;
       dev = kind_kept Development d c.args.self.now.dev before (ap (is_kind Development) kind) h.dev;
     }) c.add.ensures
@@ -22,7 +22,7 @@ returns-in-Build c = on_ok_weaker c.add-in-Build.result (λ holds before h.
     let kind : d.kind ≡ Build = sym c.kind.ensures ∙ c.in-Build.is in
     record {
       normal = kind_kept Normal d c.args.self.now.normal before (ap (is_kind Normal) kind) h.normal;
-      build = kind_grown Build d c.add-in-Build.new.self before (ap (is_kind Build) kind) (holds d.platform (platforms_of Build before) c.platform-platform.ensures h.build);
+      build = kind_grown Build d c.add-in-Build.new.self before (ap (is_kind Build) kind) (holds (platforms_of Build before) h.build);
       dev = kind_kept Development d c.args.self.now.dev before (ap (is_kind Development) kind) h.dev;
     }) c.add-in-Build.ensures
 
@@ -33,5 +33,5 @@ returns-in-Development c = on_ok_weaker c.add-in-Development.result (λ holds be
     record {
       normal = kind_kept Normal d c.args.self.now.normal before (ap (is_kind Normal) kind) h.normal;
       build = kind_kept Build d c.args.self.now.build before (ap (is_kind Build) kind) h.build;
-      dev = kind_grown Development d c.add-in-Development.new.self before (ap (is_kind Development) kind) (holds d.platform (platforms_of Development before) c.platform-platform.ensures h.dev);
+      dev = kind_grown Development d c.add-in-Development.new.self before (ap (is_kind Development) kind) (holds (platforms_of Development before) h.dev);
     }) c.add-in-Development.ensures
