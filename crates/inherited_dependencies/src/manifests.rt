@@ -49,7 +49,7 @@ fn documents_of(alloc: Global, pieces: &[&[u8]]) -> Result<Vec<Value>, Manifests
     Ok(documents)
 }
 
-/// Returns the manifests in `bytes`, of which each ends with a NUL byte. The error is `NotToml` if one of them isn't a TOML document, and
+/// Returns the manifests in `bytes`; each ends with a NUL byte. The error is `NotToml` if one of them isn't a TOML document, and
 /// `Memory` if an allocation fails.
 pub fn manifests_in(alloc: Global, bytes: &[u8]) -> Result<Vec<Value>, ManifestsFault>
     ensures manifests { IfOk result (λ manifests. spec.AreManifests bytes.now (map view manifests.items)) }

@@ -1,4 +1,4 @@
--- What is found of a word by what it means.
+-- The finding about a word, by its meaning.
 use Rattle.std.proofs.Common.{◌≡◌, List, ap, sym, ◌∙◌, map}
 use Rattle.std.specs.Borrow.{Bor}
 use Rattle.std.specs.Global.{Vec}

@@ -1,4 +1,4 @@
--- What is found of a rule in a build.
+-- The finding about a rule in a build.
 use Rattle.std.specs.Prelude.{ℕ, List, [], ◌∷◌, Bool, Option, Some, None, filter, map, length, nat_lt, slice_get, if◌then◌else◌}
 use Rattle.std.specs.Option.{option_map_or}
 use Rattle.std.specs.Str.{bytes_eq}
@@ -19,7 +19,7 @@ pub data FoundText : Type 0 where
   ambiguous : Text → List NamedText → FoundText
   no_platform : Text → FoundText
 
--- What is found of what a word means.
+-- The finding about the parts or packages that a word means.
 abbrev pub of_meaning : (List NamedText → FoundText) → MeaningText → FoundText
 of_meaning found (these parts) = found parts
 of_meaning found (one_of word candidates) = ambiguous word candidates
@@ -68,7 +68,7 @@ with_name packages numbers name = filter (λ p. bytes_eq name (name_at packages 
 abbrev pub has_namesake : List PackageText → List ℕ → ℕ → Bool
 has_namesake packages numbers p = nat_lt 1 (length (with_name packages numbers (name_at packages p)))
 
--- Those of the packages of which several have one name.
+-- Those of the packages whose names several of them have.
 abbrev pub repeated : List PackageText → List ℕ → List ℕ
 repeated packages numbers = filter (has_namesake packages numbers) numbers
 

@@ -14,7 +14,7 @@ use crate::verdict::Verdict;
 use policies::Rule;
 use std::alloc::Global;
 
-/// Appends the verdict on `rule`, of which `found` is found, if it is broken.
+/// Appends the verdict on `rule` if the finding `found` breaks it.
 fn push_verdict<'w>(
     verdicts: &mut Vec<Verdict<'w>>,
     rule: Rule<'w>,

@@ -1,4 +1,4 @@
-//! What is found of a rule.
+//! The finding about a rule.
 ghost use Rattle.std.specs.Prelude.{◌≡◌, IfOk, map, option_map};
 ghost use Rattle.plan_whys.specs.StepViews.{spot_text};
 ghost use Rattle.policies.specs.Views.{kind_text};
@@ -16,7 +16,7 @@ use plan_whys::Spot;
 use policies::RuleKind;
 use std::alloc::{AllocError, Global};
 
-/// What is found of a rule.
+/// The finding about a rule.
 #[derive(Drop)]
 pub(crate) enum Found<'w> {
     Kept,
@@ -31,7 +31,7 @@ pub(crate) enum Found<'w> {
     NoPlatform(&'w str),
 }
 
-/// Returns what is found of a `deny` whose parts are on at `spots`.
+/// Returns the finding about a `deny` whose parts are on at `spots`.
 fn denied_at<'w>(spots: Vec<Spot<'w>>) -> Found<'w>
     ensures { found_text result ≡ spec.denied_at (map spot_text spots.entry.items) }
 {
@@ -42,7 +42,7 @@ fn denied_at<'w>(spots: Vec<Spot<'w>>) -> Found<'w>
     }
 }
 
-/// Returns what is found of a `require` whose parts are on at `spots`.
+/// Returns the finding about a `require` whose parts are on at `spots`.
 fn required_at<'w>(alloc: Global, spots: &[Spot<'w>]) -> Found<'w>
     ensures { found_text result ≡ spec.required_at (map spot_text spots.now) }
 {
@@ -53,7 +53,7 @@ fn required_at<'w>(alloc: Global, spots: &[Spot<'w>]) -> Found<'w>
     }
 }
 
-/// Returns what is found of `deny` with this word.
+/// Returns the finding about `deny` with this word.
 fn denied<'b>(
     alloc: Global,
     build: Build<'b, '_, '_, '_>,
@@ -67,7 +67,7 @@ fn denied<'b>(
     }
 }
 
-/// Returns what is found of `deny` with this word on a platform of `build`.
+/// Returns the finding about `deny` with this word on a platform of `build`.
 fn denied_for<'b>(
     alloc: Global,
     build: Build<'b, '_, '_, '_>,
@@ -82,7 +82,7 @@ fn denied_for<'b>(
     }
 }
 
-/// Returns what is found of `deny` with this word on the platform `triple`.
+/// Returns the finding about `deny` with this word on the platform `triple`.
 fn denied_on<'b>(
     alloc: Global,
     build: Build<'b, '_, '_, '_>,
@@ -98,7 +98,7 @@ fn denied_on<'b>(
     }
 }
 
-/// Returns what is found of `deny` with this word, on the platform `on` if there is one.
+/// Returns the finding about `deny` with this word, on the platform `on` if there is one.
 fn denied_where<'b>(
     alloc: Global,
     build: Build<'b, '_, '_, '_>,
@@ -113,7 +113,7 @@ fn denied_where<'b>(
     }
 }
 
-/// Returns what is found of `require` with this word.
+/// Returns the finding about `require` with this word.
 fn required<'b>(
     alloc: Global,
     build: Build<'b, '_, '_, '_>,
@@ -130,7 +130,7 @@ fn required<'b>(
     }
 }
 
-/// Returns what is found of packages that are denied, `numbers`.
+/// Returns the finding about packages that are denied, `numbers`.
 fn denied_packages<'b>(
     alloc: Global,
     build: Build<'b, '_, '_, '_>,
@@ -146,7 +146,7 @@ fn denied_packages<'b>(
     }
 }
 
-/// Returns what is found of `deny-duplicates` with this word.
+/// Returns the finding about `deny-duplicates` with this word.
 fn duplicates_denied<'b>(
     alloc: Global,
     build: Build<'b, '_, '_, '_>,
@@ -160,7 +160,7 @@ fn duplicates_denied<'b>(
     denied_packages(alloc, build, &repeated)
 }
 
-/// Returns what is found of a rule of this kind in `build`.
+/// Returns the finding about a rule of this kind in `build`.
 pub(crate) fn found_of<'b>(
     alloc: Global,
     build: Build<'b, '_, '_, '_>,

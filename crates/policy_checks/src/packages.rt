@@ -110,7 +110,7 @@ fn has_several(names: &BTreeMap<&str, Vec<usize>>, name: &str) -> bool
     }
 }
 
-/// Returns those of the packages `numbers` of which several have one name.
+/// Returns those of the packages `numbers` whose names several of them have.
 pub(crate) fn repeated(
     alloc: Global,
     workspace: &Workspace<'_>,

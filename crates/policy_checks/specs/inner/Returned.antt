@@ -1,4 +1,4 @@
--- What a word means, and what is found.
+-- The meaning of a word, and the finding.
 use Rattle.std.specs.Prelude.{map}
 use Rattle.plan_names.specs.Views.{named_text}
 use Rattle.plan_whys.specs.StepViews.{spot_text}
