@@ -3,7 +3,6 @@ pub mod Ascending
 pub mod EachAfter
 pub mod Firsts
 pub mod ItemLemmas
-pub mod HashLemmas
 pub mod Joined
 pub mod LinkEdges
 pub mod LinkRanges
@@ -19,5 +18,4 @@ pub mod Sections
 pub mod SharedLemmas
 pub mod Sound
 pub mod StoredLemmas
-pub mod TagLemmas
 pub mod TakenLemmas

@@ -66,13 +66,6 @@ before_end p (x ∷ xs) = go (p x) (before_end p xs)
 pub is_some-position : {X : Type 0} (p : X → Bool) (xs : List X) → is_some (position p xs) ≡ list_any p xs
 is_some-position p xs = is_some-cond (nat_lt (position_or_len p xs) (length xs)) _ ∙ before_end p xs
 
--- an element passes if one is found, and none if none is
-pub any_some : {A : Type 0} (p : A → Bool) (xs : List A) (k : ℕ) → Some k ≡ position p xs → list_any p xs ≡ true
-any_some p xs k found = sym (is_some-position p xs) ∙ ap is_some (sym found)
-
-pub any_none : {A : Type 0} (p : A → Bool) (xs : List A) → None ≡ position p xs → list_any p xs ≡ false
-any_none p xs none = sym (is_some-position p xs) ∙ ap is_some (sym none)
-
 -- whether an element was there, by whether it was added
 pub was_there : (there added : Bool) → added ≡ not there → there ≡ not added
 was_there true added h = ap not (sym h)

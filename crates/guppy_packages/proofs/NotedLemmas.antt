@@ -95,13 +95,6 @@ link_there p es at e h is = go (slice_get (map link_table es) at) refl h
         let same : l ≡ link_table e = cc in
         (there, ap p (sym same) ∙ t)
 
--- with no links, none is noted
-pub noted_none : (from : ℕ) (last : List ℕ) → AreNoted from [] last 0
-noted_none from last = record {
-  each = λ k l h. cc;
-  begin = record { within = omega arith; before = λ k l h. cc };
-}
-
 -- the rows of a later package follow, and its links begin at `next`
 pub noted_later : (from later : ℕ) (links : List LinkTable) (last : List ℕ) (first next : ℕ) → from ≤ later → AreNoted from links last first → IsBegin links later next → AreNoted later links last next
 noted_later from later links last first next le noted begin = record {

@@ -121,12 +121,6 @@ first_or-ok [] x y h =
     (refl, e)
 first_or-ok (f ∷ faults) x y h = cc
 
-first_or-more : {X Y : Type 0} (faults more : List RowError) (x : X) (y : Y) (e : RowError) → first_or faults x ≡ Err e → first_or (faults ++ more) y ≡ Err e
-first_or-more [] more x y e h = cc
-first_or-more (f ∷ faults) more x y e h =
-    let same : f ≡ e = cc in
-    ap Err same
-
 first_or-err : {X Y : Type 0} (faults : List RowError) (x : X) (y : Y) (e : RowError) → first_or faults x ≡ Err e → first_or faults y ≡ Err e
 first_or-err [] x y e h = cc
 first_or-err (f ∷ faults) x y e h =
@@ -142,10 +136,6 @@ MatchMemory-map UnknownTarget P Q R f h = f h
 MatchMemory-map OtherName P Q R f h = f h
 
 module _ (rows : List RowText) where
-  -- an error of the first pass
-  pub first_refused : (e : RowError) → first_or (faults_by row_fault rows) (packages_of rows) ≡ Err e → tables_of rows ≡ Err e
-  first_refused e h = first_or-more (faults_by row_fault rows) (faults_by (link_fault (packages_of rows)) rows) (packages_of rows) _ e h
-
   module _ (packages : List PackageTable) (read : first_or (faults_by row_fault rows) (packages_of rows) ≡ Ok packages) where
     pub no_fault : (faults_by row_fault rows ≡ []) × (packages_of rows ≡ packages)
     no_fault = first_or-ok (faults_by row_fault rows) (packages_of rows) packages read

@@ -11,9 +11,6 @@ module _ (texts : List Text) (first count : ℕ) (within : first + count ≤ len
   pub run_long : length (take count (drop first texts)) ≡ count
   run_long = length-take-le count (drop first texts) (omega (arith, length-drop first texts, within))
 
-  pub later_long : length (drop 1 (take count (drop first texts))) + 1 ≤ count + 1
-  later_long = omega (arith, length-drop 1 (take count (drop first texts)), run_long)
-
   pub run_first : (x : Text) → 0 < length (take count (drop first texts)) → slice_get texts first ≡ Some x → x ≡ first_text (take count (drop first texts))
   run_first x some at = go count some
     where

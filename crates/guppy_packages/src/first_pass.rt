@@ -60,15 +60,11 @@ fn push_package(
 }
 
 /// Appends the feature with these texts to `features`, or returns `DuplicateFeature` if `features` already has its name.
-fn push_feature(
-    alloc: Global,
-    features: &mut NameSet<NamedFeature>,
-    texts: TextRun,
-) -> Result<(), RowFault>
+fn push_feature(features: &mut NameSet<NamedFeature>, texts: TextRun) -> Result<(), RowFault>
     requires { 0 < length texts }
     ensures { Takes (map feature_table features.new) result (with_feature (table_of_texts texts).name (table_of_texts texts).items (map feature_table features.old)) }
 {
-    let added = features.insert(alloc, NamedFeature::new(texts))?;
+    let added = features.insert(NamedFeature::new(texts))?;
     if !added {
         return Err(RowFault::DuplicateFeature);
     }
@@ -77,25 +73,21 @@ fn push_feature(
 
 /// Reads a Feature row with these texts into the last package. Returns `NoPackage` if there is none, `DuplicateFeature` if it has a
 /// feature of this name.
-fn push_feature_row(
-    alloc: Global,
-    packages: &mut PackageList,
-    texts: TextRun,
-) -> Result<(), RowFault>
+fn push_feature_row(packages: &mut PackageList, texts: TextRun) -> Result<(), RowFault>
     requires { 0 < length texts }
     ensures { Takes (package_tables packages.new) result (change_last (add_feature (table_of_texts texts).name (table_of_texts texts).items) (package_tables packages.old)) }
 {
     let Some(current) = packages.contents.last_mut() else {
         return Err(RowFault::NoPackage);
     };
-    push_feature(alloc, &mut current.features, texts)
+    push_feature(&mut current.features, texts)
 }
 
 /// Inserts `name` into `names`, the optional names of a package.
 fn push_name(alloc: Global, names: &mut NameSet<String>, name: &str) -> Result<(), RowFault>
     ensures { Takes (map string_bytes names.new) result (Ok (with_name name.now (map string_bytes names.old))) }
 {
-    names.insert(alloc, String::from_str(alloc, name)?)?;
+    names.insert(String::from_str(alloc, name)?)?;
     Ok(())
 }
 
@@ -151,7 +143,7 @@ fn take_row(
         }
         Row::Feature { .. } => {
             let text = TextRun::new(names, at, next - at)?;
-            push_feature_row(alloc, packages, text)
+            push_feature_row(packages, text)
         }
         Row::Dep { name, optional, .. } => push_dep_row(alloc, packages, name, optional),
     }

@@ -1,127 +1,93 @@
 //! Sets of named things, in insertion order.
 //!
-//! Most packages have few names: scanning them is faster than hashing and needs no table. A package may also have thousands;
-//! those are hashed.
-ghost use Rattle.std.specs.Prelude.{◌≡◌, ◌<◌, ◌∷◌, ◌++◌, [], IfOk, OnErr, if◌then◌else◌, is_ok, length, not, position};
+//! Most packages have few names, which are scanned. A package may also have thousands, which are in an `IndexSet`.
+ghost use Rattle.std.specs.Prelude.{◌≡◌, [], IfOk, not, position};
 ghost use Rattle.std.specs.List.{list_any};
-ghost use Rattle.std.specs.Str.{bytes_eq};
-ghost use Rattle.guppy_packages.specs.inner.NameSets.{held_items, inserted};
+ghost use Rattle.indexmap.specs.IndexSet.{insert_key};
+ghost use Rattle.guppy_packages.specs.inner.NameSets.{held_items};
 
-use crate::hash_places::hash_of;
-use crate::named::Named;
-use crate::named_list::NamedList;
 use crate::pushing::push_to;
+use crate::text_map::{TextSet, insert_into};
+use indexmap::{Equivalent, IndexSet};
 use std::alloc::{AllocError, Global};
+use std::hash::{BuildHasherDefault, Hash};
 use std::marker::Model;
-use std::mem;
 
-/// The most items that a set scans: a larger one hashes their names. The first insert without room reserves this many, and
-/// `shrink_to_fit` frees the rest.
+/// The most items for which a set without an index has room. An index takes as much memory as many names.
 const FEW: usize = 16;
 
 /// The items of a set, in insertion order.
 #[derive(Drop)]
-pub(crate) enum Held<T: Named> {
+pub(crate) enum Held<T: Eq + Hash> {
     Few(Vec<T>),
-    Many(Box<NamedList<T>>),
+    Many(Box<TextSet<T>>),
 }
 
 /// A set in insertion order. A contract sees it as the list of its items.
 #[derive(Drop)]
-pub(crate) struct NameSet<T: Named> {
+pub(crate) struct NameSet<T: Eq + Hash> {
     held: Held<T>,
 }
 
-impl<T: Named> Model for NameSet<T> {
+impl<T: Eq + Hash> Model for NameSet<T> {
     ghost use Rattle.std.specs.Prelude.{List};
+    ghost use Rattle.guppy_packages.specs.inner.NameSets.{held_items};
 
     ghost Value = { List T };
-
-    ghost use Rattle.guppy_packages.specs.inner.NameSets.{held_items};
 
     ghost view = { λ s. held_items s.held };
 }
 
-/// Returns whether an item of `items` has the name `name`.
-fn has<T: Named>(items: &[T], name: &str) -> bool
-    ensures { result ≡ list_any (λ t. bytes_eq name.now (T.name t)) items.now }
+/// Returns whether an item of `items` is equal to `item`.
+fn has<T: Eq + Hash>(items: &[T], item: &T) -> bool
+    ensures { result ≡ list_any (T.eq item.now) items.now }
 {
-    items.iter().any(|held| held.is_named(name))
+    items.iter().any(|held| item.eq(held))
 }
 
-/// Returns the hashed set of `items` and `item`.
-fn grown<T: Named + Drop>(alloc: Global, items: Vec<T>, item: T) -> Result<Held<T>, AllocError>
-    ensures { IfOk result (λ held. held_items held ≡ items.items ++ item ∷ []) }
-{
-    let mut all = items;
-    push_to(&mut all, item)?;
-    let many = NamedList::of(alloc, all)?;
-    Ok(Held::Many(Box::new(alloc, many)?))
-}
-
-/// Appends `item` unless one of its name is there, and returns whether it did. If an allocation fails, `items` is unchanged.
+/// Appends `item` unless an equal one is there, and returns whether it did. `AllocError` is the only error.
 #[inline]
-fn insert_few<T: Named + Drop>(items: &mut Vec<T>, item: T) -> Result<bool, AllocError>
-    ensures added { IfOk result (λ added. added ≡ not (list_any (λ t. bytes_eq (T.name item) (T.name t)) items.old.items)) }
-    ensures items { IfOk result (λ _. items.new.items ≡ inserted T.name items.old.items item) }
+fn insert_few<T: Eq + Hash + Drop>(items: &mut Vec<T>, item: T) -> Result<bool, AllocError>
+    ensures added { IfOk result (λ added. added ≡ not (list_any (T.eq item) items.old.items)) }
+    ensures items { IfOk result (λ _. items.new.items ≡ insert_key T.eq items.old.items item) }
 {
-    if has(items, item.name()) {
+    if has(items, &item) {
         return Ok(false);
-    }
-    if items.len() == items.capacity() {
-        items.reserve_exact(FEW.saturating_sub(items.len()))?;
     }
     push_to(items, item)?;
     Ok(true)
 }
 
-/// Appends `item` unless one of its name is there, and returns whether it did. `AllocError` is the only error.
-fn insert_many<T: Named + Drop>(
-    alloc: Global,
-    items: &mut NamedList<T>,
-    item: T,
-) -> Result<bool, AllocError>
-    ensures added { IfOk result (λ added. added ≡ not (list_any (λ t. bytes_eq (T.name item) (T.name t)) items.old)) }
-    ensures items { IfOk result (λ _. items.new ≡ inserted T.name items.old item) }
+/// Returns the empty index, with room for `room` items. `AllocError` is the only error.
+fn indexed<T: Eq + Hash + Drop>(alloc: Global, room: usize) -> Result<Held<T>, AllocError>
+    ensures { IfOk result (λ held. held_items held ≡ []) }
 {
-    let hash = hash_of(item.name());
-    items.insert(alloc, item, hash)
+    let names = IndexSet::with_capacity_and_hasher(alloc, room, BuildHasherDefault::new())?;
+    Ok(Held::Many(Box::new(alloc, names)?))
 }
 
-/// Appends `item` unless one of its name is there, and returns whether it did. If an allocation fails, items may be lost.
-#[inline]
-fn insert_into<T: Named + Drop>(
-    alloc: Global,
-    held: &mut Held<T>,
-    item: T,
-) -> Result<bool, AllocError>
-    ensures added { IfOk result (λ added. added ≡ not (list_any (λ t. bytes_eq (T.name item) (T.name t)) (held_items held.old))) }
-    ensures items { IfOk result (λ _. held_items held.new ≡ inserted T.name (held_items held.old) item) }
+/// Appends `item` unless an equal one is there, and returns whether it did. `AllocError` is the only error.
+fn insert_held<T: Eq + Hash + Drop>(held: &mut Held<T>, item: T) -> Result<bool, AllocError>
+    ensures added { IfOk result (λ added. added ≡ not (list_any (T.eq item) (held_items held.old))) }
+    ensures items { IfOk result (λ _. held_items held.new ≡ insert_key T.eq (held_items held.old) item) }
 {
     match held {
-        Held::Many(items) => insert_many(alloc, items, item),
-        Held::Few(items) => {
-            if items.len() < FEW {
-                return insert_few(items, item);
-            }
-            if has(items, item.name()) {
-                return Ok(false);
-            }
-            let all = mem::replace(items, Vec::new(alloc));
-            *held = grown(alloc, all, item)?;
-            Ok(true)
-        }
+        Held::Few(items) => insert_few(items, item),
+        Held::Many(names) => insert_into(names, item),
     }
 }
 
-impl<T: Named + Drop> NameSet<T> {
-    /// Returns the empty set, with room for `room` items. `AllocError` is the only error.
+impl<T: Eq + Hash + Drop> NameSet<T> {
+    /// Returns the empty set for `room` items. A set for more than `FEW` has an index. `AllocError` is the only error.
     pub(crate) fn with_capacity(alloc: Global, room: usize) -> Result<NameSet<T>, AllocError>
         ensures { IfOk result (λ set. set ≡ []) }
     {
-        Ok(NameSet {
-            held: Held::Few(Vec::with_capacity(alloc, room)?),
-        })
+        let held = if room > FEW {
+            indexed(alloc, room)?
+        } else {
+            Held::Few(Vec::with_capacity(alloc, room)?)
+        };
+        Ok(NameSet { held })
     }
 
     /// Returns the items, in insertion order.
@@ -130,26 +96,26 @@ impl<T: Named + Drop> NameSet<T> {
     {
         match &self.held {
             Held::Few(items) => items.as_slice(),
-            Held::Many(items) => items.as_slice(),
+            Held::Many(names) => names.as_slice(),
         }
     }
 
-    /// Returns the index of the item with the name `name`.
-    pub(crate) fn place_of(&self, name: &str) -> Option<usize>
-        ensures { result ≡ position (λ t. bytes_eq name.now (T.name t)) self.now }
+    /// Returns the index of the item that `name` stands for.
+    pub(crate) fn place_of<Q: Equivalent<T>>(&self, name: Q) -> Option<usize>
+        ensures { result ≡ position (Q.equivalent name) self.now }
     {
         match &self.held {
-            Held::Few(items) => items.iter().position(|item| item.is_named(name)),
-            Held::Many(items) => items.place_of(name),
+            Held::Few(items) => items.iter().position(|item| name.equivalent(item)),
+            Held::Many(names) => names.get_index_of(name),
         }
     }
 
-    /// Appends `item` unless one of its name is there, and returns whether it did. If an allocation fails, items may be lost.
-    pub(crate) fn insert(&mut self, alloc: Global, item: T) -> Result<bool, AllocError>
-        ensures added { IfOk result (λ added. added ≡ not (list_any (λ t. bytes_eq (T.name item) (T.name t)) self.old)) }
-        ensures items { IfOk result (λ _. self.new ≡ inserted T.name self.old item) }
+    /// Appends `item` unless an equal one is there, and returns whether it did. `AllocError` is the only error.
+    pub(crate) fn insert(&mut self, item: T) -> Result<bool, AllocError>
+        ensures added { IfOk result (λ added. added ≡ not (list_any (T.eq item) self.old)) }
+        ensures items { IfOk result (λ _. self.new ≡ insert_key T.eq self.old item) }
     {
-        insert_into(alloc, &mut self.held, item)
+        insert_held(&mut self.held, item)
     }
 
     /// Frees the spare capacity.
@@ -158,7 +124,7 @@ impl<T: Named + Drop> NameSet<T> {
     {
         match &mut self.held {
             Held::Few(items) => items.shrink_to_fit(),
-            Held::Many(items) => items.shrink_to_fit(),
+            Held::Many(names) => names.shrink_to_fit(),
         }
     }
 }

@@ -1,8 +1,8 @@
 //! A named feature of a package.
 ghost use Rattle.std.specs.Prelude.{◌≡◌, ◌<◌, Some, length, slice_get};
 
-use crate::named::Named;
 use crate::text_run::TextRun;
+use indexmap::Equivalent;
 use std::fmt;
 use std::hash::{Hash, Hasher};
 
@@ -87,19 +87,21 @@ impl Hash for NamedFeature {
     }
 }
 
-impl Named for NamedFeature {
+impl Equivalent<NamedFeature> for &str {
     ghost use Rattle.guppy_packages.specs.NamedFeature.{name_text};
+    ghost use Rattle.std.specs.Str.{bytes_eq};
+    ghost use Rattle.std.specs.Cmp.Lexicographic.{bytes_decides, nat_list_eq_equiv};
+    ghost use Rattle.std.specs.Hash as fed;
+    ghost use Rattle.std.proofs.Common.{ap};
 
-    ghost name = { name_text };
+    ghost equivalent = { λ name f. bytes_eq name.now (name_text f) };
 
-    #[inline(always)]
-    fn name(&self) -> &str {
-        self.texts.first()
-    }
+    ghost respects_hash = { λ name f h. ap fed.str ((bytes_decides name.now (name_text f)).0 h) };
 
-    #[inline(always)]
-    fn is_named(&self, other: &str) -> bool {
-        other == self.texts.first()
+    ghost respects_eq = { λ name f g. nat_list_eq_equiv.congr name.now (name_text f) (name_text g) };
+
+    fn equivalent(&self, key: &NamedFeature) -> bool {
+        *self == key.name()
     }
 }
 

@@ -2,12 +2,11 @@
 ghost use Rattle.std.specs.Prelude.{◌≡◌, ◌<◌, ◌++◌, ◌∷◌, [], IfOk, OnErr, Some, if◌then◌else◌, length, not, position, slice_get};
 ghost use Rattle.std.specs.List.{list_any};
 ghost use Rattle.std.specs.Str.{bytes_eq};
-ghost use Rattle.indexmap.specs.IndexSet.{insert_key};
 
 use crate::contents::PackageData;
 use crate::package_id::PackageId;
 use crate::pushing::push_to;
-use crate::text_map::TextSet;
+use crate::text_map::{TextSet, insert_into};
 use indexmap::IndexSet;
 use std::alloc::{AllocError, Global};
 use std::hash::BuildHasherDefault;
@@ -31,18 +30,6 @@ impl Model for PackageList {
     ghost view = { λ l. zip l.ids.keys l.contents.items };
 
     ghost invariant = { λ l. length l.contents.items ≡ length l.ids.keys };
-}
-
-/// Inserts `id` into `ids`, and returns whether it is new. `AllocError` is the only error, and then `ids` is unchanged.
-fn insert_id(ids: &mut TextSet<PackageId>, id: PackageId) -> Result<bool, AllocError>
-    ensures added { IfOk result (λ added. added ≡ not (list_any (bytes_eq id) ids.old.keys)) }
-    ensures ids { IfOk result (λ _. ids.new.keys ≡ insert_key bytes_eq ids.old.keys id) }
-    ensures kept { OnErr result (ids.new.keys ≡ ids.old.keys) }
-{
-    match ids.insert(id) {
-        Ok(added) => Ok(added),
-        Err(_) => Err(AllocError),
-    }
 }
 
 impl PackageList {
@@ -94,7 +81,7 @@ impl PackageList {
     {
         let at = self.contents.len();
         push_to(&mut self.contents, contents)?;
-        match insert_id(&mut self.ids, id) {
+        match insert_into(&mut self.ids, id) {
             Ok(true) => Ok(true),
             Ok(false) => {
                 self.contents.truncate(at);

@@ -17,7 +17,7 @@ pub returns-in-Ok-true-clause-packages : goal.returns-in-Ok-true-clause-packages
 returns-in-Ok-true-clause-packages c =
     let ids = c.self.inside.ids.keys in
     let none : list_any (bytes_eq c.args.id) ids ≡ false = absent _ (sym c.in-Ok-true.field-0-test ∙ c.in-Ok-true.ensures.added) in
-    let more : c.insert_id.new.ids.keys ≡ ids ++ c.args.id ∷ [] = c.in-Ok-true.ensures.ids ∙ ap (λ b. if b then ids else ids ++ c.args.id ∷ []) none in
+    let more : c.insert_into.new.set.keys ≡ ids ++ c.args.id ∷ [] = c.in-Ok-true.ensures.keys ∙ ap (λ b. if b then ids else ids ++ c.args.id ∷ []) none in
     let contents : c.push_to.new.items.items ≡ c.self.inside.contents.items ++ c.args.contents ∷ [] = search rules in
     rw (more, contents) (zip-push ids c.self.inside.contents.items c.args.id c.args.contents c.self.invariant ∙ ap (λ l. l ++ (c.args.id, c.args.contents) ∷ []) c.self.view_is)
 
