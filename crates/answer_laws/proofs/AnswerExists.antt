@@ -3,8 +3,8 @@ use Rattle.std.proofs.Common.{◌≡◌, ℕ, zero, suc, ◌<◌, ◌⊎◌, inl
 use Rattle.std.specs.Prelude.{◌↔◌, Contains, IsTrue, slice_get}
 use Rattle.std.specs.Option.{option_map, option_map_or}
 use Rattle.std.proofs.lemmas.Option.{slice_get-map}
-use Rattle.guppy_support.specs.Bits.{has}
-use Rattle.guppy_support.specs.Graph.{IsDigraph}
+use Rattle.digraphs.specs.Bits.{has}
+use Rattle.digraphs.specs.Graph.{IsDigraph}
 use Rattle.digraph_orders.specs.Laws.{OrderExists}
 use Rattle.guppy_packages.specs.Rows.{Text}
 use Rattle.guppy_packages.specs.Tables.{AreTables, PackageTable, Tables}

@@ -1,7 +1,7 @@
 -- Excluded middle for finitely many statements, under a double negation.
 use Rattle.std.proofs.Common.{◌≡◌, ℕ, zero, suc, ◌<◌, ◌⊎◌, inl, inr, Bool, true, false, List, [], ◌∷◌, length, Some, refl, ap, subst, arith}
 use Rattle.std.specs.Prelude.{◌↔◌, slice_get, IsTrue}
-use Rattle.guppy_support.specs.Bits.{has}
+use Rattle.digraphs.specs.Bits.{has}
 
 -- a statement that is proved isn't refuted
 pub sure : {P : Type 0} → P → ¬ ¬ P

@@ -4,9 +4,9 @@ use Rattle.std.specs.Prelude.{Contains, slice_index, take}
 use Rattle.std.proofs.lemmas.Bool.{cases_eq, cases_lt}
 use Rattle.std.proofs.lemmas.List.{get_or-take, get_or_default, length-append, length-take}
 use Rattle.std.proofs.lemmas.Option.{slice_get-get_or}
-use Rattle.guppy_support.specs.Graph.{Graph, IsDigraph}
-use Rattle.guppy_support.specs.Paths.{HasEdge, SameComponent}
-use Rattle.guppy_support.proofs.FaultLemmas.{nodes_of_edge}
+use Rattle.digraphs.specs.Graph.{Graph, IsDigraph}
+use Rattle.digraphs.specs.Paths.{HasEdge, SameComponent}
+use Rattle.digraphs.proofs.FaultLemmas.{nodes_of_edge}
 use Rattle.digraph_orders.specs.Laws.{OrderExists}
 use Rattle.digraph_orders.specs.Orders.{IsOrder}
 use Rattle.digraph_orders.specs.Sequences.{Sequence, IsOrderOf}

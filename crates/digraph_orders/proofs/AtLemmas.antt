@@ -5,9 +5,9 @@ use Rattle.std.proofs.lemmas.List.{get_or-map}
 use Rattle.digraph_orders.proofs.PlaceLemmas.{places_within}
 use Rattle.digraph_orders.proofs.OutEdgeLemmas.{place_inside, edge_to}
 use Rattle.std.proofs.lemmas.Bool.{cases_eq}
-use Rattle.guppy_support.specs.declared.digraph.Edge.{Edge}
-use Rattle.guppy_support.specs.Graph.{Graph, IsDigraph, sources}
-use Rattle.guppy_support.specs.Rows.{places}
+use Rattle.digraphs.specs.declared.digraph.Edge.{Edge}
+use Rattle.digraphs.specs.Graph.{Graph, IsDigraph, sources}
+use Rattle.digraphs.specs.Rows.{places}
 use Rattle.digraph_orders.specs.inner.Queues.{Joins}
 use Rattle.digraph_orders.specs.inner.Heads.{IsDone}
 use Rattle.digraph_orders.specs.inner.Plans.{is_left, IsRun, IsAt, IsWithin, IsChosen, IsSetup, IsOutEdge, StartsGrow, AreStarts, AreReady}

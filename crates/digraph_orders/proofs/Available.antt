@@ -3,11 +3,11 @@ use Rattle.std.proofs.Common.{◌≡◌, ◌≢◌, ℕ, zero, suc, ◌<◌, ◌
 use Rattle.std.proofs.lemmas.Bool.{cases_eq, cases_lt, cases_Bool}
 use Rattle.std.proofs.lemmas.List.{get_or_default}
 use Rattle.std.proofs.lemmas.List.Elements.{Contains-push_cases, Contains-append_left, Contains-get_or}
-use Rattle.guppy_support.specs.Graph.{Graph, IsDigraph}
-use Rattle.guppy_support.specs.declared.digraph.Edge.{Edge}
-use Rattle.guppy_support.specs.Paths.{HasEdge, HasFirmEdge, Path, nowhere, onward, SameComponent}
+use Rattle.digraphs.specs.Graph.{Graph, IsDigraph}
+use Rattle.digraphs.specs.declared.digraph.Edge.{Edge}
+use Rattle.digraphs.specs.Paths.{HasEdge, HasFirmEdge, Path, nowhere, onward, SameComponent}
 use Rattle.digraph_orders.specs.Orders.{IsHeld, IsAvailable}
-use Rattle.guppy_support.proofs.FaultLemmas.{nodes_of_edge}
+use Rattle.digraphs.proofs.FaultLemmas.{nodes_of_edge}
 use Rattle.digraph_orders.specs.inner.Ranks.{IsRanking}
 use Rattle.digraph_orders.proofs.ContainsLemmas.{contains_cases}
 

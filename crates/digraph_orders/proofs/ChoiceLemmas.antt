@@ -3,13 +3,13 @@ use Rattle.std.proofs.Common.{◌≡◌, ℕ, suc, ◌+◌, ◌-◌, ◌<◌, �
 use Rattle.std.proofs.lemmas.Bool.{cases_Bool, cases_lt, cases_eq}
 use Rattle.std.proofs.lemmas.List.{length-drop, get_or-drop}
 use Rattle.std.proofs.lemmas.List.Elements.{Contains-get_or}
-use Rattle.guppy_support.specs.Graph.{Graph}
+use Rattle.digraphs.specs.Graph.{Graph}
 use Rattle.digraph_orders.specs.Orders.{IsOrder}
-use Rattle.guppy_support.proofs.FaultLemmas.{nodes_of_edge}
+use Rattle.digraphs.proofs.FaultLemmas.{nodes_of_edge}
 use Rattle.digraph_orders.proofs.ContainsLemmas.{place_of}
 use Rattle.digraph_orders.specs.inner.Heads.{IsDone, IsHead, IsEntered}
 use Rattle.digraph_orders.specs.inner.Plans.{is_fresh, IsRun, IsWithin, IsChosen, IsSetup, IsPause, AreReadyBut, AreCut, TakesFresh, IsBegun, IsWaiting, RowWaits, IsFreshPlace}
-use Rattle.guppy_support.specs.Rows.{places}
+use Rattle.digraphs.specs.Rows.{places}
 use Rattle.digraph_orders.proofs.PlaceLemmas.{places_within}
 use Rattle.digraph_orders.proofs.GroupLemmas.{row_complete, rising}
 use Rattle.digraph_orders.proofs.Available.{IsFront, some_available, rank_same}

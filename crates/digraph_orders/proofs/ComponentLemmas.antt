@@ -2,9 +2,9 @@
 use Rattle.std.proofs.Common.{◌≡◌, ◌≢◌, ℕ, suc, ◌+◌, ◌-◌, ◌*◌, ◌<◌, ◌≤◌, ◌⊎◌, inl, inr, eqb, List, [], ◌∷◌, ◌++◌, length, get_or, take, set, replicate, refl, ap, sym, ◌∙◌, arith, get_or-set_same, get_or-set_other}
 use Rattle.std.proofs.Math.ListN.{length-set}
 use Rattle.std.proofs.lemmas.Bool.{cases_eq, cases_lt, eq-eqb, ne_eqb}
-use Rattle.guppy_support.specs.Graph.{Graph, IsDigraph, sources}
-use Rattle.guppy_support.specs.Rows.{places}
-use Rattle.guppy_support.specs.Paths.{HasEdge, Path, nowhere}
+use Rattle.digraphs.specs.Graph.{Graph, IsDigraph, sources}
+use Rattle.digraphs.specs.Rows.{places}
+use Rattle.digraphs.specs.Paths.{HasEdge, Path, nowhere}
 use Rattle.digraph_orders.specs.inner.NodeEdges.{target_at}
 use Rattle.digraph_orders.specs.inner.ComponentWalk.{IsWalking, IsMore, IsFrontOf, AreGiven, unentered}
 use Rattle.digraph_orders.proofs.PathLemmas.{join, one_edge}
@@ -13,7 +13,7 @@ use Rattle.std.proofs.lemmas.List.{get_or-replicate, get_or_past, length-replica
 use Rattle.std.specs.List.{range_with_len}
 use Rattle.std.proofs.lemmas.List.FromFn.{length-range_with_len}
 use Rattle.digraph_orders.specs.inner.Ranks.{AreLevels, AreRanked, IsRanking}
-use Rattle.guppy_support.proofs.FaultLemmas.{nodes_of_edge}
+use Rattle.digraphs.proofs.FaultLemmas.{nodes_of_edge}
 use Rattle.digraph_orders.proofs.OutEdgeLemmas.{at_left, at_last, length_push, out_number}
 use Rattle.digraph_orders.proofs.FirstLemmas.{count_le}
 use Rattle.digraph_orders.proofs.ApartLemmas.{apart_short, more_apart, more_inside}

@@ -4,11 +4,11 @@ use Rattle.std.proofs.Math.ListN.{length-set}
 use Rattle.std.proofs.lemmas.Bool.{cases_eq, cases_Bool, eq-eqb, lt-ltb, le-ltb}
 use Rattle.std.proofs.lemmas.Bool.Decides.{eqb_tells}
 use Rattle.std.proofs.lemmas.List.{length-map}
-use Rattle.guppy_support.specs.Bits.{has}
-use Rattle.guppy_support.specs.declared.digraph.Edge.{Edge}
-use Rattle.guppy_support.specs.Graph.{Graph, sources, targets}
-use Rattle.guppy_support.specs.Rows.{places_from, places}
-use Rattle.guppy_support.proofs.FaultLemmas.{nodes_of_edge}
+use Rattle.digraphs.specs.Bits.{has}
+use Rattle.digraphs.specs.declared.digraph.Edge.{Edge}
+use Rattle.digraphs.specs.Graph.{Graph, sources, targets}
+use Rattle.digraphs.specs.Rows.{places_from, places}
+use Rattle.digraphs.proofs.FaultLemmas.{nodes_of_edge}
 use Rattle.digraph_orders.specs.inner.Counts.{count_below, enters}
 use Rattle.digraph_orders.specs.inner.Groups.{IsAlone}
 use Rattle.digraph_orders.specs.inner.Plans.{IsSetup, IsEdge, AreEntering, AreDegrees, AreCounted, counted}

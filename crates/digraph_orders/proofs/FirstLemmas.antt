@@ -4,13 +4,13 @@ use Rattle.std.proofs.Math.ListN.{length-set}
 use Rattle.std.proofs.lemmas.Bool.{cases_eq, cases_lt, cases_Bool, eq-eqb, lt-ltb, le-ltb}
 use Rattle.std.proofs.lemmas.Option.{slice_get-get_or}
 use Rattle.std.proofs.lemmas.List.{get_or-map, get_or-replicate, get_or_past, length-replicate}
-use Rattle.guppy_support.specs.declared.digraph.Edge.{Edge}
-use Rattle.guppy_support.specs.Graph.{Graph, IsDigraph, sources, targets}
-use Rattle.guppy_support.proofs.FaultLemmas.{nodes_of_edge}
+use Rattle.digraphs.specs.declared.digraph.Edge.{Edge}
+use Rattle.digraphs.specs.Graph.{Graph, IsDigraph, sources, targets}
+use Rattle.digraphs.proofs.FaultLemmas.{nodes_of_edge}
 use Rattle.digraph_orders.specs.inner.Counts.{count_below, enters, holds}
 use Rattle.digraph_orders.specs.inner.Plans.{IsSetup, IsEdge, AreEntering, AreHolding, AreFirsts, IsFirst, IsWaiting, IsPause, is_fresh}
 use Rattle.digraph_orders.specs.inner.Heads.{IsDone, IsHead}
-use Rattle.guppy_support.specs.Rows.{places}
+use Rattle.digraphs.specs.Rows.{places}
 use Rattle.digraph_orders.specs.inner.Queues.{Joins}
 use Rattle.digraph_orders.proofs.GroupLemmas.{first_head, row_complete}
 use Rattle.digraph_orders.proofs.CountLemmas.{count_zero, tally_skip, tally_add, tally_same, count_full}

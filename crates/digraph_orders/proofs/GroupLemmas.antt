@@ -3,9 +3,9 @@ use Rattle.std.proofs.Common.{◌≡◌, ℕ, zero, suc, ◌<◌, ◌≤◌, inl
 use Rattle.std.proofs.lemmas.Bool.{cases_eq, cases_lt}
 use Rattle.std.proofs.lemmas.Bool.Decides.{eqb_tells}
 use Rattle.std.proofs.lemmas.List.{get_or_past}
-use Rattle.guppy_support.specs.Rows.{places_from, places}
+use Rattle.digraphs.specs.Rows.{places_from, places}
 use Rattle.digraph_orders.proofs.PlaceLemmas.{places_within}
-use Rattle.guppy_support.specs.Bits.{has}
+use Rattle.digraphs.specs.Bits.{has}
 use Rattle.digraph_orders.specs.inner.Groups.{HaveOthers, IsAlone}
 use Rattle.digraph_orders.specs.inner.Heads.{IsDone, IsHead}
 use Rattle.digraph_orders.specs.inner.Plans.{is_in, IsFirst, IsBegun, RowWaits}

@@ -1,9 +1,9 @@
 -- The head of a component that is free to go on is next.
 use Rattle.std.proofs.Common.{◌≡◌, ℕ, ◌<◌, ◌≤◌, ◌⊎◌, inl, inr, Bool, true, false, List, get_or, sym, ◌∙◌, arith, Contains}
 use Rattle.std.proofs.lemmas.Bool.{cases_eq, cases_lt, cases_Bool}
-use Rattle.guppy_support.specs.Graph.{Graph, IsDigraph}
+use Rattle.digraphs.specs.Graph.{Graph, IsDigraph}
 use Rattle.digraph_orders.specs.Orders.{IsAvailable, IsNext}
-use Rattle.guppy_support.proofs.FaultLemmas.{nodes_of_edge}
+use Rattle.digraphs.proofs.FaultLemmas.{nodes_of_edge}
 use Rattle.digraph_orders.specs.inner.Ranks.{IsRanking}
 use Rattle.digraph_orders.specs.inner.Heads.{IsDone, AreMarks, AreHolds, IsHead, IsWholeBut, IsEntered}
 use Rattle.digraph_orders.proofs.Available.{rank_same, path_node}

@@ -3,13 +3,13 @@ use Rattle.std.proofs.Common.{◌≡◌, ◌≢◌, ℕ, zero, suc, ◌+◌, ◌
 use Rattle.std.specs.List.{range_with_len}
 use Rattle.std.proofs.lemmas.Bool.{cases_eq, cases_lt}
 use Rattle.std.proofs.lemmas.List.FromFn.{length-map-range_with_len, get_or-map-range_with_len}
-use Rattle.guppy_support.specs.declared.digraph.Edge.{Edge}
-use Rattle.guppy_support.specs.Graph.{Graph, IsDigraph}
-use Rattle.guppy_support.specs.Paths.{HasEdge, HasFirmEdge, Path, nowhere, onward, SameComponent}
+use Rattle.digraphs.specs.declared.digraph.Edge.{Edge}
+use Rattle.digraphs.specs.Graph.{Graph, IsDigraph}
+use Rattle.digraphs.specs.Paths.{HasEdge, HasFirmEdge, Path, nowhere, onward, SameComponent}
 use Rattle.digraph_orders.specs.Orders.{IsHeld}
 use Rattle.digraph_orders.specs.Sequences.{component_of}
 use Rattle.digraph_orders.specs.Laws.{FirmPath, firm_edge, firm_onward, OneOrder, ComponentsFollowEdges, FirmEdgesFollow, CyclesAreComponents, CyclesAreMutual}
-use Rattle.guppy_support.proofs.FaultLemmas.{nodes_of_edge}
+use Rattle.digraphs.proofs.FaultLemmas.{nodes_of_edge}
 use Rattle.digraph_orders.proofs.PathLemmas.{same_self, same_joined, cycle_from_same, same_from_cycle}
 use Rattle.digraph_orders.proofs.OrderLemmas.{same_order, place_before}
 use Rattle.digraph_orders.proofs.ApartLemmas.{apart_short}

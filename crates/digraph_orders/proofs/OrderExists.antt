@@ -5,14 +5,14 @@ use Rattle.std.proofs.Math.Nat.{mul-le-mul_right}
 use Rattle.std.proofs.lemmas.Bool.{cases_eq, cases_lt, cases_order, cases_Bool}
 use Rattle.std.proofs.lemmas.List.{get_or_default, get_or_append_left, get_or_at, take-append-le, take_at}
 use Rattle.std.proofs.lemmas.List.FromFn.{length-map-range_with_len, get_or-map-range_with_len}
-use Rattle.guppy_support.specs.declared.digraph.Edge.{Edge}
-use Rattle.guppy_support.specs.Graph.{Graph, IsDigraph}
-use Rattle.guppy_support.specs.Paths.{HasEdge, Path, nowhere, onward, SameComponent}
+use Rattle.digraphs.specs.declared.digraph.Edge.{Edge}
+use Rattle.digraphs.specs.Graph.{Graph, IsDigraph}
+use Rattle.digraphs.specs.Paths.{HasEdge, Path, nowhere, onward, SameComponent}
 use Rattle.digraph_orders.specs.Orders.{IsHeld, IsAvailable, IsNext}
 use Rattle.digraph_orders.specs.inner.Ranks.{IsRanking}
 use Rattle.digraph_orders.specs.inner.Counts.{count_below}
 use Rattle.digraph_orders.specs.Laws.{OrderExists}
-use Rattle.guppy_support.proofs.FaultLemmas.{nodes_of_edge}
+use Rattle.digraphs.proofs.FaultLemmas.{nodes_of_edge}
 use Rattle.digraph_orders.proofs.PathLemmas.{join, one_edge, same_self, same_turned, same_joined}
 use Rattle.digraph_orders.proofs.ContainsLemmas.{contains_cases}
 use Rattle.digraph_orders.proofs.ApartLemmas.{apart_short}

@@ -3,7 +3,7 @@ use Rattle.std.proofs.Common.{◌≡◌, ℕ, zero, suc, ◌<◌, ◌≤◌, inl
 use Rattle.std.proofs.lemmas.Bool.{cases_order, cases_lt}
 use Rattle.std.proofs.lemmas.List.{take_more_same, take_all, get_or-take, length-take, get_or_default}
 use Rattle.std.proofs.lemmas.List.Elements.{Contains-get_or}
-use Rattle.guppy_support.specs.declared.digraph.Edge.{Edge}
+use Rattle.digraphs.specs.declared.digraph.Edge.{Edge}
 use Rattle.digraph_orders.specs.Orders.{IsNext, IsOrder}
 
 pub same_next : {es : List Edge} {n : ℕ} {listed : List ℕ} {u v : ℕ} → IsNext es n listed u → IsNext es n listed v → u ≡ v

@@ -3,14 +3,14 @@ use Rattle.std.proofs.Common.{◌≡◌, ℕ, ◌+◌, ◌-◌, ◌<◌, List, [
 use Rattle.std.proofs.lemmas.List.{get_or-map, length-map, get_or_append_left, get_or_at}
 use Rattle.std.specs.List.{range_with_len}
 use Rattle.std.proofs.lemmas.List.FromFn.{length-range_with_len, get_or-range_with_len}
-use Rattle.guppy_support.specs.Graph.{Graph, IsDigraph, sources}
+use Rattle.digraphs.specs.Graph.{Graph, IsDigraph, sources}
 use Rattle.digraph_orders.specs.inner.NodeEdges.{target_at}
-use Rattle.guppy_support.specs.Rows.{places}
-use Rattle.guppy_support.specs.Paths.{HasEdge}
+use Rattle.digraphs.specs.Rows.{places}
+use Rattle.digraphs.specs.Paths.{HasEdge}
 use Rattle.digraph_orders.proofs.PlaceLemmas.{edge_at, places_within}
-use Rattle.guppy_support.specs.declared.digraph.Edge.{Edge}
+use Rattle.digraphs.specs.declared.digraph.Edge.{Edge}
 use Rattle.std.proofs.lemmas.Option.{slice_get-get_or}
-use Rattle.guppy_support.proofs.FaultLemmas.{nodes_of_edge}
+use Rattle.digraphs.proofs.FaultLemmas.{nodes_of_edge}
 
 pub at_left : (xs : List ℕ) (x i : ℕ) → i < length xs → get_or (xs ++ x ∷ []) i 0 ≡ get_or xs i 0
 at_left xs x i h = get_or_append_left xs (x ∷ []) 0 i h

@@ -1,7 +1,7 @@
 -- Paths are transitive, and components are equivalence classes.
 use Rattle.std.proofs.Common.{ℕ, List}
-use Rattle.guppy_support.specs.declared.digraph.Edge.{Edge}
-use Rattle.guppy_support.specs.Paths.{HasEdge, Path, nowhere, onward, SameComponent, OnCycle}
+use Rattle.digraphs.specs.declared.digraph.Edge.{Edge}
+use Rattle.digraphs.specs.Paths.{HasEdge, Path, nowhere, onward, SameComponent, OnCycle}
 use Rattle.std.proofs.Common.{◌≢◌, refl, sym}
 
 pub join : {es : List Edge} {a b c : ℕ} → Path es a b → Path es b c → Path es a c

@@ -4,11 +4,11 @@ use Rattle.std.proofs.lemmas.Bool.Decides.{eqb_tells}
 use Rattle.std.proofs.lemmas.Bool.{eq-eqb}
 use Rattle.std.proofs.lemmas.List.{get_or-map, length-map}
 use Rattle.std.proofs.lemmas.List.Elements.{All-from_get_or, Contains-get_or}
-use Rattle.guppy_support.specs.declared.digraph.Edge.{Edge}
-use Rattle.guppy_support.specs.Graph.{sources, targets}
+use Rattle.digraphs.specs.declared.digraph.Edge.{Edge}
+use Rattle.digraphs.specs.Graph.{sources, targets}
 use Rattle.digraph_orders.specs.inner.NodeEdges.{target_at, source_at}
-use Rattle.guppy_support.specs.Rows.{places_from, places}
-use Rattle.guppy_support.specs.Paths.{HasEdge}
+use Rattle.digraphs.specs.Rows.{places_from, places}
+use Rattle.digraphs.specs.Paths.{HasEdge}
 
 -- `p` is a place of `v`.
 record IsPlace (v s : ℕ) (xs : List ℕ) (p : ℕ) : Type 0 where

@@ -5,11 +5,11 @@ use Rattle.std.proofs.lemmas.Bool.{cases_eq}
 use Rattle.std.proofs.lemmas.List.{length-replicate}
 use Rattle.std.proofs.lemmas.List.Sums.{sum_by-set}
 use mathlib.Core.Bool.{true≢false}
-use Rattle.guppy_support.specs.Bits.{has, members}
-use Rattle.guppy_support.specs.NextMembers.{members_from}
+use Rattle.digraphs.specs.Bits.{has, members}
+use Rattle.digraphs.specs.NextMembers.{members_from}
 use Rattle.digraph_orders.specs.inner.Queues.{Joins, Leaves, IsAbove}
-use Rattle.guppy_support.proofs.BitLemmas.{ticks, length-members}
-use Rattle.guppy_support.proofs.SetLemmas.{has-insert_same, has-insert_other, has-empty, has_inside, has-members, members_complete, members_rise, Contains-members, has-Contains}
+use Rattle.digraphs.proofs.BitLemmas.{ticks, length-members}
+use Rattle.digraphs.proofs.SetLemmas.{has-insert_same, has-insert_other, has-empty, has_inside, has-members, members_complete, members_rise, Contains-members, has-Contains}
 
 from_start : (s : List Bool) → members_from s 0 ≡ members s
 from_start s = let z : length s - 0 ≡ length s = omega arith in rw z refl

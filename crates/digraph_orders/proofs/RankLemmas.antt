@@ -1,7 +1,7 @@
 -- The rank of each mark: one of its nodes. The place of a mark in `firsts` is the mark minus a base.
 use Rattle.std.proofs.Common.{◌≡◌, ◌≢◌, ℕ, ◌+◌, ◌-◌, ◌<◌, ◌≤◌, inl, inr, Bool, true, false, List, length, get_or, set, refl, ap, sym, ◌∙◌, arith, get_or-set_same, get_or-set_other}
 use Rattle.std.proofs.lemmas.Bool.{cases_eq, cases_Bool}
-use Rattle.guppy_support.specs.Bits.{has}
+use Rattle.digraphs.specs.Bits.{has}
 use Rattle.digraph_orders.specs.inner.Groups.{HaveOthers}
 use Rattle.digraph_orders.specs.inner.Ranks.{AreRanked}
 

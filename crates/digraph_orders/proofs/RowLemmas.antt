@@ -2,9 +2,9 @@
 use Rattle.std.proofs.Common.{◌≡◌, ◌≢◌, ℕ, zero, suc, ◌+◌, ◌<◌, ◌≤◌, ◌⊎◌, inl, inr, Bool, true, false, ◌||◌, eqb, List, [], ◌∷◌, length, get_or, drop, set, refl, sym, arith, get_or-set_same, get_or-set_other}
 use Rattle.std.proofs.lemmas.Bool.{cases_eq, cases_Bool, eq-eqb}
 use Rattle.std.proofs.lemmas.Bool.Decides.{eqb_tells}
-use Rattle.guppy_support.specs.declared.digraph.Edge.{Edge}
-use Rattle.guppy_support.specs.Graph.{sources}
-use Rattle.guppy_support.specs.Rows.{places_from, places}
+use Rattle.digraphs.specs.declared.digraph.Edge.{Edge}
+use Rattle.digraphs.specs.Graph.{sources}
+use Rattle.digraphs.specs.Rows.{places_from, places}
 use Rattle.digraph_orders.specs.inner.Heads.{IsDone}
 use Rattle.digraph_orders.specs.inner.Plans.{is_fresh, is_left, is_in}
 use Rattle.digraph_orders.proofs.PlanLemmas.{eqb_false}

@@ -5,16 +5,16 @@ use Rattle.std.proofs.lemmas.Bool.{cases_eq, cases_lt, cases_order, eq-eqb, ne_e
 use Rattle.std.proofs.lemmas.List.{get_or-take, get_or-map, length-map, length-take, ext_get_or, get_or_append_left, get_or_at, length-append, get_or_default}
 use Rattle.std.proofs.lemmas.List.Elements.{Contains-get_or}
 use Rattle.std.proofs.lemmas.Option.{slice_get-get_or}
-use Rattle.guppy_support.specs.Graph.{Graph, IsDigraph}
-use Rattle.guppy_support.specs.declared.digraph.Edge.{Edge}
+use Rattle.digraphs.specs.Graph.{Graph, IsDigraph}
+use Rattle.digraphs.specs.declared.digraph.Edge.{Edge}
 use Rattle.digraph_orders.specs.Laws.{OrderListsEach}
 use Rattle.digraph_orders.specs.Orders.{IsOrder, ListsEach}
-use Rattle.guppy_support.specs.PackedRows.{below, AreBegun}
+use Rattle.digraphs.specs.PackedRows.{below, AreBegun}
 use Rattle.digraph_orders.specs.inner.Apart.{AreApart}
 use Rattle.digraph_orders.specs.inner.Ranks.{IsRanking}
 use Rattle.digraph_orders.specs.Sequences.{Sequence, IsSequence, IsOrderOf}
 use Rattle.digraph_orders.specs.inner.Numbering.{ArePlaces, numbers_of, AreGrouped, rank_at, AreNumbered}
-use Rattle.guppy_support.proofs.PackedLemmas.{below_step, below-le-length}
+use Rattle.digraphs.proofs.PackedLemmas.{below_step, below-le-length}
 use Rattle.digraph_orders.proofs.OrderLemmas.{listed_before, order_below, order_apart}
 use Rattle.digraph_orders.proofs.ApartLemmas.{apart_whole}
 use Rattle.digraph_orders.proofs.Available.{rank_same, path_node}

@@ -4,9 +4,9 @@ use Rattle.std.proofs.Math.ListN.{length-set}
 use Rattle.std.proofs.lemmas.Bool.{cases_eq, cases_lt, cases_Bool, eq-eqb}
 use Rattle.std.proofs.lemmas.List.{get_or_append_left, get_or_at, length-map, take-append-le, take_all}
 use Rattle.std.proofs.lemmas.List.Elements.{Contains-push, Contains-push_cases, Contains-append_left}
-use Rattle.guppy_support.specs.declared.digraph.Edge.{Edge}
-use Rattle.guppy_support.specs.Graph.{Graph, sources, targets}
-use Rattle.guppy_support.specs.Rows.{places}
+use Rattle.digraphs.specs.declared.digraph.Edge.{Edge}
+use Rattle.digraphs.specs.Graph.{Graph, sources, targets}
+use Rattle.digraphs.specs.Rows.{places}
 use Rattle.digraph_orders.specs.Orders.{IsNext}
 use Rattle.digraph_orders.specs.inner.Queues.{Joins}
 use Rattle.digraph_orders.specs.inner.Counts.{count_below, enters, holds}

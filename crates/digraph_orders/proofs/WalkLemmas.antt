@@ -2,12 +2,12 @@
 use Rattle.std.proofs.Common.{◌≡◌, ◌∙◌, ℕ, ◌+◌, ◌-◌, ◌<◌, ◌≤◌, ◌⊎◌, inl, inr, Bool, true, false, List, length, get_or, set, sym, arith, replicate, get_or-set_same, get_or-set_other}
 use Rattle.std.proofs.lemmas.Bool.{cases_eq, cases_lt, cases_Bool}
 use Rattle.std.proofs.lemmas.List.{length-replicate}
-use Rattle.guppy_support.specs.Bits.{has}
-use Rattle.guppy_support.specs.Graph.{Graph}
+use Rattle.digraphs.specs.Bits.{has}
+use Rattle.digraphs.specs.Graph.{Graph}
 use Rattle.digraph_orders.specs.inner.ComponentWalk.{IsWalking, AreFinished, AreGiven, IsInOrFrom}
 use Rattle.digraph_orders.specs.inner.ComponentWalk.IsInOrFrom.{was, at_place}
 use Rattle.digraph_orders.proofs.FirstLemmas.{none_done}
-use Rattle.guppy_support.proofs.SetLemmas.{has_inside}
+use Rattle.digraphs.proofs.SetLemmas.{has_inside}
 
 on_off : {x : Bool} → x ≡ true → ¬ (x ≡ false)
 on_off on off = absurd (let c : true ≡ false = sym on ∙ off in cc)

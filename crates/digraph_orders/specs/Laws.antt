@@ -1,8 +1,8 @@
 -- Laws of every order of a digraph.
 use Rattle.std.specs.Prelude.{◌≡◌, ◌≢◌, ◌↔◌, ℕ, ◌<◌, List, slice_index}
-use Rattle.guppy_support.specs.declared.digraph.Edge.{Edge}
-use Rattle.guppy_support.specs.Graph.{Graph, IsDigraph}
-use Rattle.guppy_support.specs.Paths.{HasEdge, HasFirmEdge, SameComponent, OnCycle}
+use Rattle.digraphs.specs.declared.digraph.Edge.{Edge}
+use Rattle.digraphs.specs.Graph.{Graph, IsDigraph}
+use Rattle.digraphs.specs.Paths.{HasEdge, HasFirmEdge, SameComponent, OnCycle}
 use Rattle.digraph_orders.specs.Orders.{IsOrder, ListsEach}
 use Rattle.digraph_orders.specs.Sequences.{Sequence, IsOrderOf}
 

@@ -1,7 +1,7 @@
 -- The order: each next node is the least available one.
 use Rattle.std.specs.Prelude.{◌≡◌, ◌≢◌, ℕ, ◌<◌, ◌⊎◌, List, length, take, Contains, slice_index}
-use Rattle.guppy_support.specs.declared.digraph.Edge.{Edge}
-use Rattle.guppy_support.specs.Paths.{HasEdge, HasFirmEdge, SameComponent}
+use Rattle.digraphs.specs.declared.digraph.Edge.{Edge}
+use Rattle.digraphs.specs.Paths.{HasEdge, HasFirmEdge, SameComponent}
 
 -- `b` is held: another node of its component isn't listed and has an edge to `b` that isn't dev-only.
 pub record IsHeld (es : List Edge) (listed : List ℕ) (b : ℕ) : Type 0 where

@@ -1,7 +1,7 @@
 -- The value of an order: the list of nodes, the component of each node, and the number of components.
 use Rattle.std.specs.Prelude.{◌≡◌, ℕ, ◌<◌, ◌≤◌, List, length, slice_index}
-use Rattle.guppy_support.specs.Paths.{SameComponent}
-use Rattle.guppy_support.specs.Graph.{Graph}
+use Rattle.digraphs.specs.Paths.{SameComponent}
+use Rattle.digraphs.specs.Graph.{Graph}
 use Rattle.digraph_orders.specs.Orders.{IsOrder, ListsEach}
 
 pub record Sequence : Type 0 where

@@ -1,12 +1,12 @@
 //! Components of a digraph, found in one depth-first walk.
 ghost use Rattle.std.specs.Prelude.{◌≡◌, ◌≢◌, ℕ, ◌+◌, ◌-◌, ◌^◌, ◌<◌, ◌≤◌, length, set, IfOk, slice_index, true, false};
-ghost use Rattle.guppy_support.specs.Bits.{has};
+ghost use Rattle.digraphs.specs.Bits.{has};
 ghost use Rattle.digraph_orders.specs.inner.Groups.{HaveOthers};
 ghost use Rattle.digraph_orders.specs.inner.Ranks.{AreRanked, IsRanking};
 
 mod walk;
 
-use guppy_support::{Digraph, IxBitSet, zeroes};
+use digraphs::{Digraph, IxBitSet, zeroes};
 use std::alloc::{AllocError, Global};
 use walk::walked;
 

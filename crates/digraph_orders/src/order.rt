@@ -1,12 +1,12 @@
 //! The order of the nodes, and their components.
 ghost use Rattle.std.specs.Prelude.{◌≡◌, ◌≢◌, ℕ, [], ◌∷◌, ◌++◌, ◌+◌, ◌-◌, ◌<◌, ◌≤◌, ◌==◌, ◌↔◌, length, slice_index, slice_get, Some, filter, IfOk, OnOk, IsTrue};
-ghost use Rattle.guppy_support.specs.Graph.{Graph, IsDigraph};
-ghost use Rattle.guppy_support.specs.Paths.{SameComponent};
+ghost use Rattle.digraphs.specs.Graph.{Graph, IsDigraph};
+ghost use Rattle.digraphs.specs.Paths.{SameComponent};
 ghost use Rattle.digraph_orders.specs.Orders.{IsOrder};
 ghost use Rattle.digraph_orders.specs.inner.Plans.{IsSetup};
 ghost use Rattle.digraph_orders.specs.inner.Apart.{AreApart};
 ghost use Rattle.digraph_orders.specs.inner.Groups.{HaveOthers};
-ghost use Rattle.guppy_support.specs.PackedRows.{AreBegun};
+ghost use Rattle.digraphs.specs.PackedRows.{AreBegun};
 ghost use Rattle.digraph_orders.specs.Sequences.{IsOrderOf, IsSequence, component_of};
 ghost use Rattle.digraph_orders.specs.inner.Numbering.{AreNumbered, rank_at};
 
@@ -19,7 +19,7 @@ mod queue;
 use crate::components::component_ranks;
 use counts::first_plan;
 use groups::Groups;
-use guppy_support::{Digraph, IxBitSet};
+use digraphs::{Digraph, IxBitSet};
 use listing::order_from;
 use numbering::numbered;
 use std::alloc::{AllocError, Global};

@@ -17,7 +17,7 @@ use Rattle.std.proofs.lemmas.Bool.{eqb-true, eqb-false}
 use Rattle.feature_core.proofs.Answered.{decide}
 use Rattle.feature_edges.proofs.AddsLemmas.{Contains-first, Contains-later, Contains-cases, Contains-none}
 use Rattle.feature_core.proofs.PairReach.{member_alike}
-use Rattle.order_views.proofs.AlongLemmas.{along_weaker}
+use Rattle.guppy_support.proofs.AlongLemmas.{along_weaker}
 use Rattle.feature_edges.proofs.PushLemmas.{from_filter, into_filter, from_map, into_map}
 
 -- `All` chooses all edges

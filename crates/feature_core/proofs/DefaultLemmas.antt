@@ -4,7 +4,7 @@ use Rattle.std.specs.Prelude.{◌↔◌, IsTrue, slice_set, replicate, codes}
 use Rattle.std.proofs.lemmas.List.{length-map}
 use Rattle.std.proofs.Math.Logic.{∥∥₁_elim, ∥∥₁_map, ∥∥₁_prop}
 use Rattle.std.proofs.Math.Bool.{Bool-set}
-use Rattle.guppy_support.specs.Bits.{has}
+use Rattle.digraphs.specs.Bits.{has}
 use Rattle.feature_edges.specs.guppy_packages.Tables.{Tables}
 use Rattle.feature_edges.specs.guppy_packages.declared.direction.DependencyDirection.TheVariants.{Forward}
 use Rattle.feature_edges.specs.feature_labels.Names.{LabelName}
@@ -19,7 +19,7 @@ use Rattle.feature_edges.specs.Choices.{is_chosen_edge, chosen_pairs, ChosenEdge
 use Rattle.feature_core.specs.Defaults.{IsDefaultFeature, by_name, by_base, IsDefault}
 use Rattle.feature_edges.proofs.AddsLemmas.{place_below}
 use Rattle.feature_core.proofs.ChoiceLemmas.{chosen_pair}
-use Rattle.order_views.proofs.AlongLemmas.{along_more, along_weaker}
+use Rattle.guppy_support.proofs.AlongLemmas.{along_more, along_weaker}
 use Rattle.feature_edges.proofs.Places.{got_same, node_back}
 use Rattle.feature_edges.proofs.LabelLemmas.{one_base}
 use Rattle.feature_core.proofs.WayNumbers.{marked_set, marked_grows, marked_cases}

@@ -4,8 +4,8 @@ use Rattle.std.specs.Prelude.{IsFalse, ◌==◌, slice_get}
 use Rattle.std.specs.Option.{option_map_or}
 use Rattle.std.proofs.lemmas.List.{length-map}
 use Rattle.std.proofs.lemmas.Option.{slice_get_within, slice_get-get_or}
-use Rattle.guppy_support.specs.declared.digraph.Edge.{Edge}
-use Rattle.guppy_support.specs.Graph.{Graph}
+use Rattle.digraphs.specs.declared.digraph.Edge.{Edge}
+use Rattle.digraphs.specs.Graph.{Graph}
 use Rattle.feature_edges.specs.guppy_packages.declared.direction.DependencyDirection.TheVariants.{Forward, Reverse}
 use Rattle.feature_edges.specs.guppy_packages.Tables.{Tables}
 use Rattle.feature_edges.specs.feature_labels.Names.{LabelName}

@@ -6,7 +6,7 @@ use Rattle.feature_edges.specs.guppy_packages.declared.direction.DependencyDirec
 use Rattle.feature_edges.specs.guppy_packages.declared.direction.DependencyDirection.TheVariants.{Forward, Reverse}
 use Rattle.feature_edges.specs.Pairs.{ReachAlong, Reach, PairLeads, LeadsTo, IsPairList}
 use Rattle.feature_core.specs.Built.{Built, IsBuilt, ends_of}
-use Rattle.order_views.proofs.AlongLemmas.{along_weaker}
+use Rattle.guppy_support.proofs.AlongLemmas.{along_weaker}
 
 -- a pair of the list leads if and only if a candidate does
 pub leads_alike : (t : Tables) (pairs : List (ℕ × ℕ)) (direction : DependencyDirection) → IsPairList t pairs → (u w : ℕ) → PairLeads pairs direction u w ↔ LeadsTo t direction u w

@@ -2,8 +2,8 @@
 use Rattle.std.proofs.Common.{◌≡◌, ℕ, List, map, refl, sym, ap, ap₂, ◌∙◌, subst}
 use Rattle.std.specs.Prelude.{◌↔◌, Contains}
 use Rattle.std.proofs.lemmas.Bool.{eqb-true, eq-eqb}
-use Rattle.guppy_support.specs.declared.digraph.Edge.{Edge}
-use Rattle.guppy_support.specs.Paths.{HasEdge, Path, nowhere as ended, onward as along}
+use Rattle.digraphs.specs.declared.digraph.Edge.{Edge}
+use Rattle.digraphs.specs.Paths.{HasEdge, Path, nowhere as ended, onward as along}
 use Rattle.feature_edges.specs.guppy_packages.Tables.{Tables}
 use Rattle.feature_edges.specs.guppy_packages.declared.direction.DependencyDirection.TheVariants.{Forward, Reverse}
 use Rattle.walk_engine.specs.Laws.{only}
@@ -11,7 +11,7 @@ use Rattle.feature_edges.specs.feature_links.Facts.{EdgeFacts}
 use Rattle.feature_core.specs.Built.{Built, IsBuilt, digraph_of, end_of, ends_of}
 use Rattle.feature_edges.specs.Pairs.{Along, nowhere, onward, LeadsTo, HasCandidate, Reach}
 use Rattle.feature_edges.proofs.PushLemmas.{from_map, into_map}
-use Rattle.order_views.proofs.AlongLemmas.{along_more}
+use Rattle.guppy_support.proofs.AlongLemmas.{along_more}
 
 -- ---- an edge of the digraph is a candidate
 

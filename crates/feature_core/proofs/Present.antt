@@ -8,7 +8,7 @@ use Rattle.std.proofs.Math.Bool.{Bool-set}
 use Rattle.std.proofs.Math.Logic.{∥∥₁_elim}
 use Rattle.std.proofs.lemmas.List.Elements.{Contains-append_left, Contains-append_right}
 use Rattle.std.proofs.lemmas.Bool.Decides.{nat_tests}
-use Rattle.guppy_support.specs.declared.digraph.Edge.{Edge as End}
+use Rattle.digraphs.specs.declared.digraph.Edge.{Edge as End}
 use Rattle.feature_edges.specs.guppy_packages.Graph.{firsts}
 use Rattle.feature_edges.specs.guppy_packages.Platform.{always_status, status_by}
 use Rattle.feature_edges.specs.guppy_packages.Rows.{Text, Declared}

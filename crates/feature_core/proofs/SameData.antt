@@ -2,7 +2,7 @@
 use Rattle.std.proofs.Common.{◌≡◌, ℕ, List, ◌∷◌, [], length, map, Bool, true, false, refl, ap, sym, ◌∙◌, arith}
 use Rattle.std.specs.Prelude.{◌↔◌, IsTrue}
 use Rattle.std.specs.List.{zip}
-use Rattle.guppy_support.specs.declared.digraph.Edge.{Edge}
+use Rattle.digraphs.specs.declared.digraph.Edge.{Edge}
 use Rattle.feature_core.specs.Built.{ends_of, pairs_of, built_edges}
 use Rattle.feature_edges.specs.feature_links.Facts.{EdgeFacts}
 use Rattle.feature_edges.proofs.BuildLemmas.{built_ends}

@@ -1,6 +1,6 @@
 -- The data built from tables.
 use Rattle.std.specs.Prelude.{◌≡◌, ◌↔◌, ℕ, List, Bool, Some, Contains, length, map, slice_get}
-use Rattle.guppy_support.specs.Graph.{Graph}
+use Rattle.digraphs.specs.Graph.{Graph}
 use Rattle.feature_edges.specs.guppy_packages.Rows.{Text}
 use Rattle.feature_edges.specs.guppy_packages.Tables.{PackageTable, Tables}
 use Rattle.feature_edges.specs.feature_labels.Names.{LabelName}

@@ -1,6 +1,6 @@
 -- The default feature of each package, and the features of the package that it turns on.
 use Rattle.std.specs.Prelude.{◌≡◌, ℕ, ◌↔◌, List, Bool, IsTrue, length, codes}
-use Rattle.guppy_support.specs.Bits.{has}
+use Rattle.digraphs.specs.Bits.{has}
 use Rattle.feature_edges.specs.guppy_packages.Tables.{Tables}
 use Rattle.feature_edges.specs.feature_labels.Names.{LabelName}
 use Rattle.feature_edges.specs.feature_labels.Names.LabelName.{base, named}

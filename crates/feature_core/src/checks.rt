@@ -1,6 +1,6 @@
 //! Checks of explanations over the edges of a feature graph, and the steps that support one node.
 ghost use Rattle.std.specs.Prelude.{◌≡◌, ◌↔◌, ℕ, Bool, List, IsTrue, IsFalse, IfOk, IfErr, MatchOption, length};
-ghost use Rattle.guppy_support.specs.Bits.{has};
+ghost use Rattle.digraphs.specs.Bits.{has};
 ghost use Rattle.walk_engine.specs.Explanations.{IsExplanation, nodes_of};
 ghost use Rattle.walk_engine.specs.Laws.{every};
 ghost use Rattle.walk_engine.specs.Walks.{is_in};
@@ -13,7 +13,7 @@ use crate::data::FeatureGraphData;
 use crate::directed_edges::Packed;
 use crate::error::Error;
 use feature_edges::DependencyDirection;
-use guppy_support::IxBitSet;
+use digraphs::IxBitSet;
 use std::alloc::Global;
 use walk_engine::{Half, Step};
 

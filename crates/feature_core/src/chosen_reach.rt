@@ -1,14 +1,14 @@
 //! Reach over chosen edges of a digraph.
 ghost use Rattle.std.specs.Prelude.{◌≡◌, ◌↔◌, ◌<◌, ℕ, IfOk, IsTrue, length};
-ghost use Rattle.guppy_support.specs.Bits.{has};
+ghost use Rattle.digraphs.specs.Bits.{has};
 ghost use Rattle.feature_edges.specs.Pairs.{PairLeads, ReachAlong};
 ghost use Rattle.feature_core.specs.Built.{built_edges};
 ghost use Rattle.feature_edges.specs.Choices.{chosen_pairs};
 ghost use Rattle.feature_core.specs.inner.ChosenEdges.{is_chosen_at};
 
 use feature_edges::{DependencyDirection, EdgeChoice, EdgeList};
-use guppy_support::{Digraph, IxBitSet};
-use order_views::{EdgeFilter, reach};
+use digraphs::{Digraph, IxBitSet};
+use guppy_support::{EdgeFilter, reach};
 use std::alloc::{AllocError, Global};
 
 /// Follows the edges that `which` chooses.

@@ -4,10 +4,10 @@ ghost use Rattle.feature_edges.specs.guppy_packages.Metadata.{package_graph_of};
 ghost use Rattle.feature_edges.specs.guppy_packages.Tables.{Tables};
 ghost use Rattle.feature_edges.specs.feature_labels.Names.{id_of, label_of};
 ghost use Rattle.feature_edges.specs.Nodes.{NodeAt, nodes, first_node, first_nodes, node_packages};
-ghost use Rattle.guppy_support.specs.Bits.{has};
+ghost use Rattle.digraphs.specs.Bits.{has};
 ghost use Rattle.feature_edges.specs.Pairs.{IsPairList, PairLeads, ReachAlong};
 ghost use Rattle.digraph_orders.specs.Sequences.{IsOrderOf};
-ghost use Rattle.order_views.specs.Cycles.{cyclic_components};
+ghost use Rattle.guppy_support.specs.Cycles.{cyclic_components};
 ghost use Rattle.feature_core.specs.Built.{AreAlike, IsBuilt, NodeNamed, built_edges, digraph_of, end_of, pairs_of};
 ghost use Rattle.feature_edges.specs.Choices.{chosen_pairs};
 ghost use Rattle.feature_core.specs.Defaults.{AreDefaults, IsDefault};
@@ -32,9 +32,9 @@ use feature_edges::{
     FeatureLabel, NodeTable, Numbers, PackageGraph, PackageMetadata, first_absent, label_at,
     named_links, node_table, numbers_in,
 };
-use guppy_support::{Digraph, IxBitSet};
+use digraphs::{Digraph, IxBitSet};
 use indexmap::IndexMap;
-use order_views::cyclic_components;
+use guppy_support::cyclic_components;
 use std::alloc::{AllocError, Global};
 use std::marker::Model;
 
@@ -74,7 +74,7 @@ impl Drop for FeatureGraphData {
 impl Model for FeatureGraphData {
     ghost use Rattle.std.specs.Prelude.{◌≡◌, length, map};
     ghost use Rattle.digraph_orders.specs.Sequences.{IsOrderOf};
-    ghost use Rattle.order_views.specs.Cycles.{cyclic_components};
+    ghost use Rattle.guppy_support.specs.Cycles.{cyclic_components};
     ghost use Rattle.feature_core.specs.Built.{Built, built_edges, end_of};
     ghost use Rattle.feature_core.specs.inner.Releases.{AreTied};
     ghost use Rattle.feature_edges.specs.Warnings.{warnings_in};

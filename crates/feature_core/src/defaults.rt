@@ -1,6 +1,6 @@
 //! The features that are on by default.
 ghost use Rattle.std.specs.Prelude.{◌≡◌, ◌<◌, ◌↔◌, ℕ, IfOk, IsTrue, length};
-ghost use Rattle.guppy_support.specs.Bits.{has};
+ghost use Rattle.digraphs.specs.Bits.{has};
 ghost use Rattle.feature_edges.specs.guppy_packages.Metadata.{package_graph_of};
 ghost use Rattle.feature_core.specs.Built.{built_edges};
 ghost use Rattle.feature_core.specs.Defaults.{IsDefaultFeature, AreDefaults};
@@ -11,7 +11,7 @@ ghost use Rattle.feature_edges.specs.Nodes.{node_packages};
 use crate::chosen_reach::reach_chosen;
 use feature_edges::table::EdgeTable;
 use feature_edges::{DependencyDirection, EdgeChoice, Numbers, PackageMetadata, default_at};
-use guppy_support::IxBitSet;
+use digraphs::IxBitSet;
 use std::alloc::{AllocError, Global};
 
 /// Returns the default feature of a package: its feature named `default`, or its base if it has none. `nodes` has the feature

@@ -14,7 +14,7 @@ use crate::data::FeatureGraphData;
 use crate::engine::{Ask, EdgeSource, Taken};
 use crate::gates::{gate_of, released_at};
 use feature_edges::{DependencyDirection, EdgeList, FeatureEdge};
-use guppy_support::{Digraph, Edge};
+use digraphs::{Digraph, Edge};
 use indexmap::IndexMap;
 use std::marker::Model;
 use walk_checks::{EdgeTable, TableEdge};

@@ -1,12 +1,12 @@
 //! Walks over the edges of a source. A walk asks an offerer before it follows a conditional edge.
 
 ghost use Rattle.std.specs.Prelude.{◌≡◌, ◌^◌, ◌<◌, IfOk, IfErr, OnErr, length};
-ghost use Rattle.guppy_support.specs.Bits.{has};
+ghost use Rattle.digraphs.specs.Bits.{has};
 ghost use Rattle.walk_engine.specs.Walks.{IsWalk, LegalRun, MayAsk, ReadsAreBounded};
 ghost use Rattle.walk_engine.specs.Explanations.{IsExplainedWalk};
 
 use crate::error::Error;
-use guppy_support::IxBitSet;
+use digraphs::IxBitSet;
 use std::alloc::Global;
 pub use walk_engine::{Ask, EdgeSource, Half, Offerer, Step, StepReason, Taken, Walk};
 

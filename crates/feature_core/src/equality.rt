@@ -12,7 +12,7 @@ use feature_edges::{
     ConditionalLinkImpl, EdgeList, EnabledLink, FeatureEdge, FeatureGraphWarning, PackageGraph,
     PlatformStatus, Spec, WeakSlashImpl,
 };
-use guppy_support::{Digraph, Edge};
+use digraphs::{Digraph, Edge};
 use indexmap::IndexMap;
 use std::alloc::Global;
 

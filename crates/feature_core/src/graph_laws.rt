@@ -1,7 +1,7 @@
 //! Laws of built feature graphs. Each function does nothing: its contract is the law, for each build of `graph`.
 
 ghost use Rattle.std.specs.Prelude.{◌≡◌, ◌↔◌, ◌<◌, ℕ, Bool, Some, length, map, slice_get};
-ghost use Rattle.guppy_support.specs.Paths.{Path};
+ghost use Rattle.digraphs.specs.Paths.{Path};
 ghost use Rattle.feature_edges.specs.guppy_packages.Rows.{Text};
 ghost use Rattle.feature_edges.specs.guppy_packages.declared.direction.DependencyDirection.{DependencyDirection};
 ghost use Rattle.feature_edges.specs.guppy_packages.declared.direction.DependencyDirection.TheVariants.{Forward, Reverse};

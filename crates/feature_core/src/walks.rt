@@ -1,6 +1,6 @@
 //! Walks over the edges of a feature graph.
 ghost use Rattle.std.specs.Prelude.{◌≡◌, ◌↔◌, ℕ, IfOk, IfErr, OnErr, IsTrue, length};
-ghost use Rattle.guppy_support.specs.Bits.{has};
+ghost use Rattle.digraphs.specs.Bits.{has};
 ghost use Rattle.feature_edges.specs.guppy_packages.Tables.{Tables};
 ghost use Rattle.feature_core.specs.Built.{IsBuilt};
 ghost use Rattle.feature_edges.specs.Choices.{ChosenReach, chosen_pairs};
@@ -13,7 +13,7 @@ use crate::data::FeatureGraphData;
 use crate::directed_edges::Packed;
 use crate::error::Error;
 use feature_edges::{DependencyDirection, EdgeChoice};
-use guppy_support::IxBitSet;
+use digraphs::IxBitSet;
 use std::alloc::Global;
 use walk_engine::{Offerer, Walk, walk_over};
 

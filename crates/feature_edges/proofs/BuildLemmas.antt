@@ -4,7 +4,7 @@ use Rattle.std.specs.Prelude.{◌↔◌, Contains, All, AllPairs, slice_get, fil
 use Rattle.std.specs.List.{zip, cons_option, list_any}
 use Rattle.std.proofs.lemmas.List.Elements.{All-cons, All-head, All-tail}
 use Rattle.std.proofs.lemmas.List.Kept.{AllPairs-cons}
-use Rattle.guppy_support.specs.declared.digraph.Edge.{Edge as End}
+use Rattle.digraphs.specs.declared.digraph.Edge.{Edge as End}
 use Rattle.std.proofs.Math.Logic.{∥∥₁_elim}
 use Rattle.guppy_packages.specs.Rows.{Declared}
 use Rattle.guppy_packages.specs.Tables.{LinkTable, Tables, AreTables}

@@ -6,7 +6,7 @@ use Rattle.std.proofs.lemmas.Option.{slice_get-map}
 use Rattle.std.proofs.lemmas.List.Elements.{All-map}
 use Rattle.std.proofs.lemmas.List.Kept.{AllPairs-cons}
 use Rattle.std.proofs.Math.Logic.{∥∥₁_elim}
-use Rattle.guppy_support.specs.declared.digraph.Edge.{Edge}
+use Rattle.digraphs.specs.declared.digraph.Edge.{Edge}
 use Rattle.guppy_packages.specs.Tables.{Tables, FeatureTable, AreTables}
 use Rattle.feature_edges.specs.Pairs.{IsPairList, IsBefore}
 use Rattle.feature_edges.specs.Candidates.{Candidate}

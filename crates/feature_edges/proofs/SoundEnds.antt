@@ -6,10 +6,10 @@ use Rattle.std.proofs.Math.Logic.{∥∥₁_elim}
 use Rattle.std.proofs.Props.{props}
 use Rattle.std.proofs.lemmas.List.{length-map}
 use Rattle.std.proofs.lemmas.Option.{slice_get-map, get_or_from_slice_get}
-use Rattle.guppy_support.specs.Graph.{IsDigraph, IsRefused, IsBefore, sources, targets, for_its_ends, for_its_place, for_memory}
-use Rattle.guppy_support.specs.declared.digraph.DigraphError.{DigraphError}
-use Rattle.guppy_support.specs.declared.digraph.DigraphError.TheVariants.{Memory}
-use Rattle.guppy_support.specs.declared.digraph.Edge.{Edge as End}
+use Rattle.digraphs.specs.Graph.{IsDigraph, IsRefused, IsBefore, sources, targets, for_its_ends, for_its_place, for_memory}
+use Rattle.digraphs.specs.declared.digraph.DigraphError.{DigraphError}
+use Rattle.digraphs.specs.declared.digraph.DigraphError.TheVariants.{Memory}
+use Rattle.digraphs.specs.declared.digraph.Edge.{Edge as End}
 use Rattle.guppy_packages.specs.Tables.{Tables}
 use Rattle.feature_edges.specs.EdgeEnds.{pairs_of}
 use Rattle.feature_edges.specs.Nodes.{node_packages}

@@ -4,7 +4,7 @@ use Rattle.std.specs.Prelude.{slice_get}
 use Rattle.std.specs.List.{zip}
 use Rattle.std.proofs.lemmas.List.{append_assoc}
 use Rattle.std.proofs.lemmas.Option.{slice_get_within}
-use Rattle.guppy_support.specs.declared.digraph.Edge.{Edge as End}
+use Rattle.digraphs.specs.declared.digraph.Edge.{Edge as End}
 use Rattle.guppy_packages.specs.Tables.{Tables}
 use Rattle.feature_edges.specs.declared.table.MadeEdges.{MadeEdges}
 use Rattle.feature_edges.specs.declared.candidate.Key.{Key}

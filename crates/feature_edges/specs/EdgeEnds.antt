@@ -1,7 +1,7 @@
 -- The ends of edges: as pairs of nodes, and as edges of a digraph.
 use Rattle.std.specs.Prelude.{ℕ, List, map, not}
 use Rattle.std.specs.List.{zip}
-use Rattle.guppy_support.specs.declared.digraph.Edge.{Edge}
+use Rattle.digraphs.specs.declared.digraph.Edge.{Edge}
 use Rattle.feature_links.specs.Facts.{EdgeFacts, is_dev_edge}
 
 -- The two nodes of each edge of a digraph.

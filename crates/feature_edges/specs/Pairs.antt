@@ -4,7 +4,7 @@ use Rattle.guppy_packages.specs.Tables.{Tables}
 use Rattle.guppy_packages.specs.declared.direction.DependencyDirection.{DependencyDirection}
 use Rattle.guppy_packages.specs.declared.direction.DependencyDirection.TheVariants.{Forward, Reverse}
 use Rattle.feature_edges.specs.Candidates.{Edge, Candidate}
-pub use Rattle.order_views.specs.Reaches.{Along, nowhere, onward, ReachAlong}
+pub use Rattle.guppy_support.specs.Reaches.{Along, nowhere, onward, ReachAlong}
 
 -- Some candidate leads from `u` to `w`.
 abbrev pub HasCandidate : Tables → ℕ → ℕ → Type 0

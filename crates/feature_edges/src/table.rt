@@ -31,7 +31,7 @@ use crate::pool::EdgeList;
 use crate::warnings::FeatureGraphWarning;
 use feature_links::{FeatureEdge, LinkGroups, SharedStatuses};
 use guppy_packages::PackageGraph;
-use guppy_support::{Digraph, Edge, EdgeColumns};
+use digraphs::{Digraph, Edge, EdgeColumns};
 use indexmap::IndexMap;
 use std::alloc::{AllocError, Global};
 

@@ -2,7 +2,7 @@
 use Rattle.std.proofs.Common.{◌≡◌, ℕ, zero, suc, ◌+◌, ◌<◌, ◌≤◌, Bool, true, false, cond, List, [], ◌∷◌, length, map, filter, Option, Some, refl, ap, ◌∙◌, subst, arith}
 use Rattle.std.specs.Prelude.{slice_get}
 use Rattle.std.specs.List.{AllByRecursion, cons_option, enumerate_from, filter_map, range_with_len}
-use Rattle.guppy_support.specs.Bits.{has, members}
+use Rattle.digraphs.specs.Bits.{has, members}
 use Rattle.feature_graph.specs.Names.{at_places}
 
 -- the elements found by number equal those found by walking over the list

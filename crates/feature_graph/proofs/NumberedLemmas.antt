@@ -4,8 +4,8 @@ use Rattle.std.specs.Prelude.{◌↔◌, ◌==◌, IsTrue, IfSome, IfNone, Match
 use Rattle.std.specs.Option.{option_map, option_map_or}
 use Rattle.std.proofs.lemmas.Bool.{eqb-true, eq-eqb}
 use Rattle.std.proofs.lemmas.Option.{none-some, same_Some, slice_get-map, slice_get_within, get_or_from_slice_get, some_pair_parts}
-use Rattle.guppy_support.specs.Graph.{IsEdgeAt}
-use Rattle.guppy_support.specs.Paths.{HasEdge}
+use Rattle.digraphs.specs.Graph.{IsEdgeAt}
+use Rattle.digraphs.specs.Paths.{HasEdge}
 use Rattle.guppy_packages.specs.declared.direction.DependencyDirection.{DependencyDirection}
 use Rattle.guppy_packages.specs.declared.direction.DependencyDirection.TheVariants.{Forward}
 use Rattle.feature_labels.specs.declared.link_declarations.LinkDeclarations.{LinkDeclarations}

@@ -5,7 +5,7 @@ use Rattle.std.specs.Option.{is_some}
 use Rattle.std.specs.List.{cons_option, filter_map}
 use Rattle.std.proofs.lemmas.List.{length-map, take_more}
 use Rattle.std.proofs.lemmas.List.Elements.{filter_map-append, recursion_from_All}
-use Rattle.guppy_support.specs.Graph.{Graph as Digraph}
+use Rattle.digraphs.specs.Graph.{Graph as Digraph}
 use Rattle.digraph_orders.specs.Sequences.{Sequence, IsOrderOf}
 use Rattle.guppy_packages.specs.Rows.{Text}
 use Rattle.guppy_packages.specs.Tables.{Tables}

@@ -2,7 +2,7 @@
 use Rattle.std.proofs.Common.{◌≡◌, ℕ, zero, suc, ◌+◌, ◌<◌, ◌⊎◌, inl, inr, ⊎_elim, Bool, false, List, length, ap, sym, ◌∙◌, subst, arith, replicate}
 use Rattle.std.specs.Prelude.{◌↔◌, IsTrue}
 use Rattle.std.proofs.lemmas.List.{length-replicate}
-use Rattle.guppy_support.specs.Bits.{has}
+use Rattle.digraphs.specs.Bits.{has}
 use Rattle.guppy_packages.specs.Tables.{Tables}
 use Rattle.feature_graph.specs.MemberPackages.{AreMemberPackages}
 use Rattle.feature_graph.specs.Packages.{has_member_of}

@@ -2,12 +2,12 @@
 use Rattle.std.proofs.Common.{◌≡◌, ◌≢◌, ℕ, ◌<◌, ◌⊎◌, inl, inr, ⊎_elim, Bool, true, false, ◌||◌, List, length, map, refl, ap, sym, ◌∙◌, subst, arith}
 use Rattle.std.specs.Prelude.{IsTrue, Contains, not, slice_index, slice_index_or}
 use Rattle.std.proofs.lemmas.List.{length-map, get_or-map, get_or_default}
-use Rattle.guppy_support.specs.Bits.{has}
-use Rattle.guppy_support.specs.Graph.{Graph}
+use Rattle.digraphs.specs.Bits.{has}
+use Rattle.digraphs.specs.Graph.{Graph}
 use Rattle.digraph_orders.specs.Laws.{OrderListsEach}
 use Rattle.digraph_orders.specs.Orders.{ListsEach}
 use Rattle.digraph_orders.specs.Sequences.{Sequence, IsOrderOf, IsSequence}
-use Rattle.order_views.specs.Laws.{ListsOnce, MembersComeOnce}
+use Rattle.guppy_support.specs.Laws.{ListsOnce, MembersComeOnce}
 use Rattle.guppy_packages.specs.declared.direction.DependencyDirection.{DependencyDirection}
 use Rattle.feature_core.specs.Built.{digraph_of}
 use Rattle.feature_graph.proofs.ListLemmas.{from_map, into_map}

@@ -4,9 +4,9 @@ use Rattle.std.specs.Prelude.{◌↔◌, All, IsTrue, IfSome, IfNone}
 use Rattle.std.specs.List.{AllByRecursion}
 use Rattle.std.specs.Option.{is_some}
 use Rattle.std.proofs.lemmas.List.Elements.{All-from_recursion, All-from_get_or, recursion_from_All}
-use Rattle.guppy_support.specs.declared.digraph.Edge.{Edge}
-use Rattle.guppy_support.specs.Graph.{IsEdgeAt, source_of, target_of}
-use Rattle.guppy_support.specs.Paths.{HasEdge}
+use Rattle.digraphs.specs.declared.digraph.Edge.{Edge}
+use Rattle.digraphs.specs.Graph.{IsEdgeAt, source_of, target_of}
+use Rattle.digraphs.specs.Paths.{HasEdge}
 use Rattle.digraph_orders.specs.Sequences.{Sequence, IsSequence}
 use Rattle.guppy_packages.specs.Rows.{Text}
 use Rattle.guppy_packages.specs.Tables.{Tables}

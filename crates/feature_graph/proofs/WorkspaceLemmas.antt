@@ -7,7 +7,7 @@ use Rattle.std.proofs.lemmas.List.{map-append, length-replicate}
 use Rattle.std.proofs.Math.Seq.{take-length}
 use Rattle.std.specs.Option.{option_map}
 use Rattle.std.proofs.lemmas.Option.{get_or_from_slice_get, slice_get-map}
-use Rattle.guppy_support.specs.Bits.{has}
+use Rattle.digraphs.specs.Bits.{has}
 use Rattle.guppy_packages.specs.Rows.{Text}
 use Rattle.guppy_packages.specs.Tables.{Tables, PackageTable}
 use Rattle.feature_labels.specs.Names.{LabelName}

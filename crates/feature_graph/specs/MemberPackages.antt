@@ -1,6 +1,6 @@
 -- The packages with a feature in a set, as a set.
 use Rattle.std.specs.Prelude.{◌≡◌, ◌↔◌, ◌<◌, ℕ, List, Bool, IsTrue, length}
-use Rattle.guppy_support.specs.Bits.{has}
+use Rattle.digraphs.specs.Bits.{has}
 use Rattle.guppy_packages.specs.Tables.{Tables}
 use Rattle.feature_graph.specs.Packages.{has_member_of}
 

@@ -1,7 +1,7 @@
 -- The features and packages of a graph by their names, and the errors of look-ups by name.
 use Rattle.std.specs.Prelude.{◌≡◌, ◌↔◌, ◌<◌, ℕ, List, Bool, Some, IsTrue, Contains, filter, map, slice_get, length}
 use Rattle.std.specs.List.{enumerate_from, filter_map, list_any}
-use Rattle.guppy_support.specs.Bits.{has}
+use Rattle.digraphs.specs.Bits.{has}
 use Rattle.guppy_packages.specs.Rows.{Text}
 use Rattle.guppy_packages.specs.Tables.{PackageTable, Tables, package_place}
 use Rattle.feature_labels.specs.Names.{LabelName}

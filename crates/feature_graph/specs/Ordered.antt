@@ -3,9 +3,9 @@ use Rattle.std.specs.Prelude.{ℕ, List, Option, None, map, filter, slice_get}
 use Rattle.std.specs.List.{filter_map}
 use Rattle.std.specs.Borrow.{Bor}
 use Rattle.std.specs.Option.{option_map, option_map_or}
-use Rattle.guppy_support.specs.declared.digraph.Edge.{Edge}
+use Rattle.digraphs.specs.declared.digraph.Edge.{Edge}
 use Rattle.digraph_orders.specs.Sequences.{Sequence, IsOrderOf}
-use Rattle.order_views.specs.Views.{in_order, links_in_order, roots_in_order}
+use Rattle.guppy_support.specs.Views.{in_order, links_in_order, roots_in_order}
 use Rattle.guppy_packages.specs.PackageSets.{reading_of}
 use Rattle.guppy_packages.specs.Rows.{Text}
 use Rattle.guppy_packages.specs.Tables.{Tables}

@@ -1,6 +1,6 @@
 -- The members of a set that belong to one package.
 use Rattle.std.specs.Prelude.{◌≡◌, ◌↔◌, ℕ, List, Bool, Option, Some, IsTrue, IsFalse, MatchOption, Contains}
-use Rattle.guppy_support.specs.Bits.{has}
+use Rattle.digraphs.specs.Bits.{has}
 use Rattle.guppy_packages.specs.Rows.{Text}
 use Rattle.guppy_packages.specs.Tables.{PackageTable, Tables, package_place}
 use Rattle.feature_links.specs.Links.{IsPackage}

@@ -1,7 +1,7 @@
 -- The packages with a feature in a set.
 use Rattle.std.specs.Prelude.{◌≡◌, ℕ, ◌-◌, ◌==◌, List, Bool, Some, filter, length}
 use Rattle.std.specs.List.{list_any, range_with_len}
-use Rattle.guppy_support.specs.Bits.{has}
+use Rattle.digraphs.specs.Bits.{has}
 use Rattle.guppy_packages.specs.Rows.{Text}
 use Rattle.guppy_packages.specs.Tables.{Tables, package_place}
 use Rattle.feature_core.specs.Nodes.{node_packages}

@@ -1,7 +1,7 @@
 -- Calls of a callback for the features of a set, and the parts that its results make.
 use Rattle.std.specs.Prelude.{◌≡◌, ◌↔◌, ◌++◌, ◌∷◌, ℕ, Bool, false, List, Option, Some, None, IsTrue, Contains, map, not, length}
 use Rattle.std.specs.List.{FoldsTo}
-use Rattle.guppy_support.specs.Bits.{has}
+use Rattle.digraphs.specs.Bits.{has}
 use Rattle.digraph_orders.specs.Sequences.{Sequence, IsOrderOf}
 use Rattle.guppy_packages.specs.Tables.{Tables}
 use Rattle.guppy_packages.specs.declared.direction.DependencyDirection.{DependencyDirection}

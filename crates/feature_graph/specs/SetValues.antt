@@ -3,7 +3,7 @@ use Rattle.std.specs.Prelude.{◌≡◌, ℕ, Bool, ◌&&◌, not, nat_eq, lengt
 use Rattle.std.specs.Cmp.{IsEquivalence}
 use Rattle.std.specs.Cmp.Lexicographic.{pointwise}
 use Rattle.std.proofs.lemmas.Cmp.{and_equiv, on_equiv, lists_equiv, nat_eq_equiv, nat_list_eq_equiv}
-use Rattle.guppy_support.specs.Bits.{has, members}
+use Rattle.digraphs.specs.Bits.{has, members}
 use Rattle.guppy_packages.specs.Rows.{Text}
 use Rattle.feature_labels.specs.Names.{LabelName}
 use Rattle.feature_labels.specs.Orders.{label_eq, label_eq_equiv}

@@ -1,7 +1,7 @@
 -- Relations between two features of a graph, and the cycles of the graph.
 use Rattle.std.specs.Prelude.{◌≡◌, ◌↔◌, ℕ, Bool, List, [], ◌∷◌, IsTrue, map}
 use Rattle.digraph_orders.specs.Sequences.{Sequence}
-use Rattle.order_views.specs.Cycles.{cyclic_components, nodes_of}
+use Rattle.guppy_support.specs.Cycles.{cyclic_components, nodes_of}
 use Rattle.guppy_packages.specs.Rows.{Text}
 use Rattle.guppy_packages.specs.Tables.{Tables}
 use Rattle.feature_core.specs.Built.{NodeNamed}

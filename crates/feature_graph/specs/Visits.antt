@@ -1,6 +1,6 @@
 -- Visitors of links, as they decide the offers of a walk.
 use Rattle.std.specs.Prelude.{◌≡◌, ℕ, Bool, IsTrue, slice_get}
-use Rattle.guppy_support.specs.Bits.{has}
+use Rattle.digraphs.specs.Bits.{has}
 use Rattle.walk_engine.specs.declared.walks.Half.{Half}
 use Rattle.feature_core.specs.Nodes.{nodes}
 use Rattle.walk_engine.specs.Walks.{Content}

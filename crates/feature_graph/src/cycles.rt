@@ -1,7 +1,7 @@
 //! The cycles of a feature graph.
 ghost use Rattle.std.specs.Prelude.{◌≡◌, ◌<◌, IfOk, IfErr, All, length, map};
 ghost use Rattle.std.specs.Iterator.{item_count};
-ghost use Rattle.guppy_support.specs.Paths.{OnCycle};
+ghost use Rattle.digraphs.specs.Paths.{OnCycle};
 ghost use Rattle.feature_labels.specs.Names.{id_of};
 ghost use Rattle.feature_core.specs.Errors.{refusal_of};
 ghost use Rattle.feature_core.specs.Nodes.{nodes};
@@ -15,8 +15,8 @@ use crate::graph::FeatureGraph;
 use digraph_orders::Order;
 use feature_core::Error;
 use feature_labels::FeatureId;
-use order_views::is_cyclic;
-use order_views::laws::views_stay_within;
+use guppy_support::is_cyclic;
+use guppy_support::laws::views_stay_within;
 use std::alloc::{AllocError, Global};
 use std::fmt;
 use std::iter::FusedIterator;

@@ -1,6 +1,6 @@
 //! Explained sets: a resolved set with the reason for each of its features.
 ghost use Rattle.std.specs.Prelude.{◌≡◌, ℕ, IsFalse, IfOk, IfErr, MatchOption, ◌∷◌, [], map};
-ghost use Rattle.guppy_support.specs.Bits.{has};
+ghost use Rattle.digraphs.specs.Bits.{has};
 ghost use Rattle.feature_labels.specs.Names.{id_of};
 ghost use Rattle.feature_core.specs.Built.{NodeNamed};
 ghost use Rattle.feature_core.specs.Errors.{refusal_of};

@@ -2,7 +2,7 @@
 //! crates below are re-exported.
 ghost use Rattle.std.specs.Borrow.{MutBor};
 ghost use Rattle.std.specs.Prelude.{◌≡◌, ◌↔◌, ℕ, Bool, List, IsTrue};
-ghost use Rattle.guppy_support.specs.Bits.{has};
+ghost use Rattle.digraphs.specs.Bits.{has};
 ghost use Rattle.walk_engine.specs.declared.walks.Half.{Half};
 ghost use Rattle.walk_checks.specs.Exact.{IsExact};
 ghost use Rattle.walk_engine.specs.Explanations.{IsExplainedWalk, IsExplanation};
@@ -86,5 +86,5 @@ pub fn partition_is_split()
     ensures first { FilterIsFirst }
 {
     digraph_orders::laws::order_lists_each();
-    order_views::laws::members_come_once();
+    guppy_support::laws::members_come_once();
 }

@@ -20,7 +20,7 @@ mod roots;
 use crate::graph::FeatureGraph;
 use feature_core::Error;
 use feature_labels::FeatureId;
-use guppy_support::{IxBitSet, Ones};
+use digraphs::{IxBitSet, Ones};
 pub use links::{ConditionalLinks, Links};
 pub use ordered::{FeatureIds, Features};
 pub use packages::InitialPackages;

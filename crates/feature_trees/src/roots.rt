@@ -1,6 +1,6 @@
 //! The roots of trees.
 ghost use Rattle.std.specs.Prelude.{◌≡◌, ◌++◌, ◌∷◌, ◌||◌, ◌&&◌, ◌<◌, [], ℕ, IfOk, OnOk, if◌then◌else◌, length, map, not};
-ghost use Rattle.guppy_support.specs.Bits.{has};
+ghost use Rattle.digraphs.specs.Bits.{has};
 ghost use Rattle.plan_links.specs.Links.{indexes_of};
 ghost use Rattle.plan_links.specs.SpotLinks as links;
 ghost use Rattle.plan_whys.specs.StepViews.{spot_text};
@@ -10,7 +10,7 @@ ghost use Rattle.feature_trees.specs.inner.Keys.{has_key};
 
 use crate::commands::{is_command, is_command_at};
 use crate::keys::{SpotKey, has_spot, keys_of};
-use guppy_support::IxBitSet;
+use digraphs::IxBitSet;
 use plan_links::Spot;
 use std::alloc::{AllocError, Global};
 use std::collections::BTreeSet;

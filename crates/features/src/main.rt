@@ -7,7 +7,7 @@
 
 ghost use Rattle.std.specs.Prelude.{◌≡◌, false};
 
-use guppy_support::collect_exactly;
+use digraphs::collect_exactly;
 use guppy_tool::{ByteInput, Command, Fault, FromReader, ToWriter, parse_words, run};
 use std::fs::File;
 use std::io::ErrorKind;

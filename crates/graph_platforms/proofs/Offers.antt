@@ -1,7 +1,7 @@
 -- The offers of the texts that hold are those of the platform.
 use Rattle.std.proofs.Common.{◌≡◌, ℕ, List, Bool, false, Option, None, Some, refl, ap, sym, ◌∙◌, subst}
 use Rattle.std.specs.Prelude.{◌↔◌, Contains, IsTrue}
-use Rattle.guppy_support.specs.Bits.{has}
+use Rattle.digraphs.specs.Bits.{has}
 use Rattle.std.specs.List.{list_any}
 use Rattle.std.specs.Option.{option_map_or}
 use Rattle.std.specs.Str.{bytes_eq}

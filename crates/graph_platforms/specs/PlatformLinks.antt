@@ -1,6 +1,6 @@
 -- The links of a platform, by the truth of their specs.
 use Rattle.std.specs.Prelude.{◌≡◌, ◌↔◌, ℕ, Bool, List, Some, IsTrue, Contains}
-use Rattle.guppy_support.specs.Bits.{has}
+use Rattle.digraphs.specs.Bits.{has}
 use Rattle.guppy_packages.specs.Platform.{Status, never_status, always_status, spec_status}
 use Rattle.guppy_packages.specs.Rows.{Text}
 use Rattle.guppy_packages.specs.declared.row.DependencyKind.{DependencyKind}

@@ -1,6 +1,6 @@
 //! What is on for a target.
 ghost use Rattle.std.specs.Prelude.{◌≡◌, ℕ, IfOk, IfErr};
-ghost use Rattle.guppy_support.specs.Bits.{has};
+ghost use Rattle.digraphs.specs.Bits.{has};
 ghost use Rattle.walk_engine.specs.Explanations.{nodes_of};
 ghost use Rattle.walk_engine.specs.Walks.{is_in};
 ghost use Rattle.walk_checks.specs.Exact.{IsExact};

@@ -6,7 +6,7 @@ use Rattle.std.proofs.lemmas.List.{length-map}
 use Rattle.std.proofs.lemmas.Option.{slice_get-get_or}
 use Rattle.binary_records.specs.Records.{flag, number}
 use Rattle.binary_records.proofs.EntryLemmas.{entry_of}
-use Rattle.guppy_support.specs.Bits.{has}
+use Rattle.digraphs.specs.Bits.{has}
 use Rattle.guppy_packages.specs.Tables.{Tables}
 use Rattle.feature_core.specs.Built.{Built, IsBuilt}
 use Rattle.feature_core.specs.Nodes.{first_node}

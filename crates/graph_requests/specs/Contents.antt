@@ -1,10 +1,10 @@
 -- The contents of answers over a feature graph.
 use Rattle.std.specs.Prelude.{◌≡◌, ◌↔◌, ℕ, List, ◌++◌, Bool, IsTrue, length}
 use Rattle.binary_records.specs.Records.{number, flag, list}
-use Rattle.guppy_support.specs.Bits.{has, members}
+use Rattle.digraphs.specs.Bits.{has, members}
 use Rattle.digraph_orders.specs.Sequences.{Sequence, IsOrderOf}
-use Rattle.order_views.specs.Views.{in_order, links_in_order, roots_in_order}
-use Rattle.order_views.specs.Cycles.{cyclic_components, nodes_of}
+use Rattle.guppy_support.specs.Views.{in_order, links_in_order, roots_in_order}
+use Rattle.guppy_support.specs.Cycles.{cyclic_components, nodes_of}
 use Rattle.walk_engine.specs.declared.walks.Half.{Half}
 use Rattle.walk_engine.specs.declared.walks.Half.TheVariants.{Full, Required, Optional}
 use Rattle.walk_engine.specs.declared.walks.Step.{Step}

@@ -1,7 +1,7 @@
 //! The cycles of a feature graph.
 ghost use Rattle.std.specs.Prelude.{◌≡◌, ◌<◌, ◌++◌, All, IfOk, OnOk, map};
 ghost use Rattle.binary_records.specs.Records.{list, number};
-ghost use Rattle.order_views.specs.Cycles.{nodes_of};
+ghost use Rattle.guppy_support.specs.Cycles.{nodes_of};
 ghost use Rattle.graph_requests.specs.Answers.{Has, answer_with};
 ghost use Rattle.graph_requests.specs.Contents.{Cyclic};
 
@@ -9,7 +9,7 @@ use crate::answers::status;
 use binary_records::{Entries, Numbers, push_list};
 use digraph_orders::Order;
 use feature_core::FeatureGraphData;
-use order_views::laws::views_stay_within;
+use guppy_support::laws::views_stay_within;
 use std::alloc::{AllocError, Global};
 
 /// Components of an order.

@@ -1,10 +1,10 @@
 //! Sets of the nodes in a list.
 ghost use Rattle.std.specs.Prelude.{◌≡◌, ◌==◌, ◌||◌, ◌<◌, ℕ, IfOk, IsTrue, length};
-ghost use Rattle.guppy_support.specs.Bits.{has};
+ghost use Rattle.digraphs.specs.Bits.{has};
 ghost use Rattle.graph_requests.specs.Contents.{IsSetOf};
 ghost use Rattle.graph_requests.specs.Requests.{are_below};
 
-use guppy_support::IxBitSet;
+use digraphs::IxBitSet;
 use std::alloc::{AllocError, Global};
 
 /// Inserts `node` into `set`.

@@ -1,6 +1,6 @@
 //! Views of some nodes in the order of a feature graph.
 ghost use Rattle.std.specs.Prelude.{◌≡◌, IfOk, IsTrue, length};
-ghost use Rattle.order_views.specs.Views.{in_order, links_in_order};
+ghost use Rattle.guppy_support.specs.Views.{in_order, links_in_order};
 ghost use Rattle.graph_requests.specs.Answers.{Answers, Has};
 ghost use Rattle.graph_requests.specs.Contents.{Linked, Ordered, Roots};
 ghost use Rattle.graph_requests.specs.Requests as spec;
@@ -11,8 +11,8 @@ use crate::sets::set_of;
 use digraph_orders::Order;
 use feature_core::FeatureGraphData;
 use guppy_packages::DependencyDirection;
-use guppy_support::{Digraph, IxBitSet};
-use order_views::{InOrder, LinksInOrder, Reading};
+use digraphs::{Digraph, IxBitSet};
+use guppy_support::{InOrder, LinksInOrder, Reading};
 use std::alloc::{AllocError, Global};
 
 /// Returns the members of `set` in `order`.
@@ -91,7 +91,7 @@ fn with_roots(
     ensures { IfOk result (λ answer. Has (Roots built.now (direction, nodes.now)) answer.items) }
 {
     let set = set_of(alloc, built.node_count(), nodes)?;
-    let numbers = order_views::roots(
+    let numbers = guppy_support::roots(
         alloc,
         built.order(),
         built.digraph(),

@@ -2,7 +2,7 @@
 ghost use Rattle.std.specs.Prelude.{◌≡◌, ◌↔◌, ◌++◌, ℕ, Bool, List, IfOk, IfSome, IsTrue, length};
 ghost use Rattle.std.specs.Option.{option_map};
 ghost use Rattle.binary_records.specs.Records.{list};
-ghost use Rattle.guppy_support.specs.Bits.{has, members};
+ghost use Rattle.digraphs.specs.Bits.{has, members};
 ghost use Rattle.walk_engine.specs.Explanations.{IsExplainedWalk};
 ghost use Rattle.feature_core.specs.Built.{IsBuilt};
 ghost use Rattle.feature_core.specs.Offers.{content_of};
@@ -21,7 +21,7 @@ use crate::steps::{Offers, Steps};
 use binary_records::push_list;
 use feature_core::{EdgeChoice, FeatureGraphData, Packed, walk_all};
 use guppy_packages::{DependencyDirection, PackageGraph};
-use guppy_support::IxBitSet;
+use digraphs::IxBitSet;
 use std::alloc::{AllocError, Global};
 use walk_engine::{Half, Step, walk_explained};
 

@@ -3,9 +3,9 @@ pub mod ListedFilters
 pub mod Platforms
 pub mod PlatformViews
 -- the definitions in the contracts, by crate
-pub use Rattle.guppy_support.specs as guppy_support
+pub use Rattle.digraphs.specs as digraphs
 pub use Rattle.digraph_orders.specs as digraph_orders
-pub use Rattle.order_views.specs as order_views
+pub use Rattle.guppy_support.specs as guppy_support
 pub use Rattle.walk_engine.specs as walk_engine
 pub use Rattle.walk_checks.specs as walk_checks
 pub use Rattle.guppy_packages.specs as guppy_packages

@@ -21,10 +21,10 @@ pub use feature_graph::{
 };
 pub use feature_labels::feature_list::{IntoIter, Iter, NamedFeatures, OptionalDeps};
 pub use guppy_packages::{Packages, RowSource};
-pub use guppy_support::{Digraph, DigraphError, Edge, EdgeColumns, IxBitSet, Ones};
+pub use digraphs::{Digraph, DigraphError, Edge, EdgeColumns, IxBitSet, Ones};
 pub use listed_filters::{
     FeatureIdFilter, NamedFeatureFilter, feature_id_filter, named_feature_filter,
 };
-pub use order_views::Reading;
+pub use guppy_support::Reading;
 pub use platform_visitor::PlatformVisitor;
 pub use walk_engine::{Half, Offerer};

@@ -2,7 +2,7 @@
 ghost use Rattle.std.specs.Prelude.{◌≡◌, ◌↔◌, ◌∷◌, [], ℕ, IsTrue, IfOk, IfErr, map};
 ghost use Rattle.std.specs.List.{list_any};
 ghost use Rattle.std.specs.Str.{bytes_eq};
-ghost use Rattle.guppy_support.specs.Bits.{has};
+ghost use Rattle.digraphs.specs.Bits.{has};
 ghost use Rattle.guppy_packages.specs.Platform.{spec_text, status_of};
 ghost use Rattle.walk_engine.specs.Explanations.{IsExplainedWalk, IsExplanation, nodes_of};
 ghost use Rattle.walk_engine.specs.Walks.{Least, is_in};

@@ -3,11 +3,11 @@ use Rattle.std.proofs.Common.{◌≡◌, ℕ, zero, suc, ◌<◌, Bool, true, fa
 use Rattle.std.specs.Prelude.{All, reverse}
 use Rattle.std.proofs.lemmas.List.Elements.{All-cons, All-nil}
 use Rattle.std.proofs.lemmas.List.Sorted.{All-permutation, IsPermutation-reverse}
-use Rattle.order_views.specs.guppy_support.Bits.{has}
-use Rattle.order_views.specs.digraph_orders.Sequences.{IsOrderOf, Sequence}
-use Rattle.order_views.specs.Views.{in_order}
-use Rattle.order_views.specs.declared.reading.Reading.{Reading}
-use Rattle.order_views.specs.declared.reading.Reading.TheVariants.{Forward, Backward}
+use Rattle.guppy_support.specs.digraphs.Bits.{has}
+use Rattle.guppy_support.specs.digraph_orders.Sequences.{IsOrderOf, Sequence}
+use Rattle.guppy_support.specs.Views.{in_order}
+use Rattle.guppy_support.specs.declared.reading.Reading.{Reading}
+use Rattle.guppy_support.specs.declared.reading.Reading.TheVariants.{Forward, Backward}
 use Rattle.guppy_packages.specs.PackageOrder.{digraph_of_packages}
 use Rattle.guppy_packages.specs.Tables.{Tables}
 

@@ -2,8 +2,8 @@
 use Rattle.std.specs.Prelude.{◌≡◌, ◌↔◌, ℕ, Contains, List, Bool, Option, ◌&&◌, ◌==◌, filter_map, length, not}
 use Rattle.std.specs.List.{find, flat_map, range_with_len}
 use Rattle.std.specs.Option.{option_map}
-use Rattle.order_views.specs.guppy_support.Graph.{Graph, IsDigraph}
-use Rattle.order_views.specs.guppy_support.declared.digraph.Edge.{Edge}
+use Rattle.guppy_support.specs.digraphs.Graph.{Graph, IsDigraph}
+use Rattle.guppy_support.specs.digraphs.declared.digraph.Edge.{Edge}
 use Rattle.guppy_packages.specs.Tables.{AreTables, LinkTable, Tables, is_dev_only}
 
 abbrev pub leads : ℕ → ℕ → LinkTable → Bool

@@ -1,9 +1,9 @@
 -- Sets of packages, and their members in the order of packages.
 use Rattle.std.specs.Prelude.{◌≡◌, ℕ, List, Bool, map}
-use Rattle.order_views.specs.digraph_orders.Orders.{IsOrder}
-use Rattle.order_views.specs.Views.{in_order}
-use Rattle.order_views.specs.declared.reading.Reading.{Reading}
-use Rattle.order_views.specs.declared.reading.Reading.TheVariants as reading
+use Rattle.guppy_support.specs.digraph_orders.Orders.{IsOrder}
+use Rattle.guppy_support.specs.Views.{in_order}
+use Rattle.guppy_support.specs.declared.reading.Reading.{Reading}
+use Rattle.guppy_support.specs.declared.reading.Reading.TheVariants as reading
 use Rattle.guppy_packages.specs.Metadata.{package_graph_of, package_number_of}
 use Rattle.guppy_packages.specs.PackageOrder.{digraph_of_packages}
 use Rattle.guppy_packages.specs.Tables.{Tables}

@@ -2,7 +2,7 @@
 ghost use Rattle.std.specs.Prelude.{◌≡◌};
 ghost use Rattle.guppy_packages.specs.PackageSets.{reading_of};
 
-use order_views::Reading;
+use guppy_support::Reading;
 
 /// The direction in which dependencies are followed.
 #[derive(Clone, Copy, PartialEq, Eq, Debug)]

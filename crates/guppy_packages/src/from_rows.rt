@@ -1,6 +1,6 @@
 //! The package graph of rows or of tables.
 ghost use Rattle.std.specs.Prelude.{◌≡◌, IfOk, IfErr, length, map};
-ghost use Rattle.order_views.specs.digraph_orders.Sequences.{IsOrderOf};
+ghost use Rattle.guppy_support.specs.digraph_orders.Sequences.{IsOrderOf};
 ghost use Rattle.guppy_packages.specs.Graph.{NamesRow, Reads, tables_of};
 ghost use Rattle.guppy_packages.specs.PackageOrder.{digraph_of_packages};
 ghost use Rattle.guppy_packages.specs.Rows.{row_text};
@@ -17,7 +17,7 @@ use crate::package_tables::PackageTables;
 use crate::row::Row;
 use crate::row_error::RowError;
 use crate::row_source::{RowSlice, RowSource};
-use order_views::Order;
+use guppy_support::Order;
 use std::alloc::{AllocError, Global};
 
 /// Returns the number of each package's first link, and the order of the packages.

@@ -7,7 +7,7 @@ ghost use Rattle.guppy_packages.specs.Tables.{AreTables};
 use crate::contents::Link;
 use crate::narrow::LAST_PLACE;
 use crate::package_list::PackageList;
-use order_views::begin_up_to;
+use guppy_support::begin_up_to;
 use std::alloc::{AllocError, Global};
 
 /// Returns the number of each package's first link, followed by the number of links. Returns `AllocError` if that number doesn't

@@ -1,6 +1,6 @@
 //! The package graph.
 ghost use Rattle.std.specs.Prelude.{◌≡◌, ◌<◌, Some, None, length, slice_get, IfOk, MatchResult};
-ghost use Rattle.order_views.specs.digraph_orders.Sequences.{IsOrderOf};
+ghost use Rattle.guppy_support.specs.digraph_orders.Sequences.{IsOrderOf};
 ghost use Rattle.guppy_packages.specs.PackageOrder.{digraph_of_packages};
 ghost use Rattle.guppy_packages.specs.Tables.{package_place, AreLinksFrom, AreTables};
 
@@ -9,7 +9,7 @@ use crate::package_id::PackageId;
 use crate::package_link::PackageLink;
 use crate::package_list::PackageList;
 use crate::package_metadata::{PackageMetadata, UnknownPackageId};
-use order_views::Order;
+use guppy_support::Order;
 use std::marker::Model;
 use std::ops::Range;
 
@@ -40,7 +40,7 @@ impl Model for PackageGraph {
     ghost Value = { Tables };
 
     ghost use Rattle.std.specs.Prelude.{length};
-    ghost use Rattle.order_views.specs.digraph_orders.Sequences.{IsOrderOf};
+    ghost use Rattle.guppy_support.specs.digraph_orders.Sequences.{IsOrderOf};
     ghost use Rattle.guppy_packages.specs.PackageOrder.{digraph_of_packages};
     ghost use Rattle.guppy_packages.specs.Stored.{package_tables, link_tables};
     ghost use Rattle.guppy_packages.specs.inner.Begins.{AreAllBegun};

@@ -3,7 +3,7 @@ ghost use Rattle.std.specs.Prelude.{◌≡◌, ◌↔◌, IsTrue, IfSome, MatchR
 ghost use Rattle.std.specs.Iterator.{YieldsFirstBy, UpTo, item_count};
 ghost use Rattle.std.specs.Iterator.SizeHint.{IsWithinCount};
 ghost use Rattle.std.specs.Option.{option_map};
-ghost use Rattle.order_views.specs.guppy_support.Bits.{has};
+ghost use Rattle.guppy_support.specs.digraphs.Bits.{has};
 ghost use Rattle.guppy_packages.specs.PackageSets.{AreInPackageOrder, numbered_package};
 ghost use Rattle.guppy_packages.specs.Tables.{package_place};
 
@@ -11,7 +11,7 @@ use crate::direction::DependencyDirection;
 use crate::package_graph::PackageGraph;
 use crate::package_id::PackageId;
 use crate::package_metadata::{PackageMetadata, UnknownPackageId};
-use order_views::{InOrder, IxBitSet};
+use guppy_support::{InOrder, IxBitSet};
 use std::fmt;
 use std::iter::FusedIterator;
 use std::marker::Model;

@@ -1,3 +1,2 @@
-pub mod EdgeColumns
-pub mod Filling
-pub mod Words
+pub mod Cursors
+pub mod Search

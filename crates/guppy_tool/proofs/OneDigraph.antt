@@ -3,8 +3,8 @@ use Rattle.std.proofs.Common.{◌≡◌, ℕ, suc, Bool, List, [], ◌∷◌, le
 use Rattle.std.specs.Prelude.{slice_get}
 use Rattle.std.proofs.Math.Logic.{∥∥₁_elim}
 use Rattle.std.proofs.Props.{props}
-use Rattle.guppy_support.specs.declared.digraph.Edge.{Edge as Between}
-use Rattle.guppy_support.specs.Graph.{Graph}
+use Rattle.digraphs.specs.declared.digraph.Edge.{Edge as Between}
+use Rattle.digraphs.specs.Graph.{Graph}
 use Rattle.guppy_packages.specs.Tables.{Tables}
 use Rattle.guppy_packages.specs.declared.direction.DependencyDirection.TheVariants.{Forward}
 use Rattle.feature_core.specs.Built.{Built, digraph_of, end_of}

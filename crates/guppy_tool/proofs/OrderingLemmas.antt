@@ -1,12 +1,12 @@
 -- The lines of features in order, and of cycles.
 use Rattle.std.proofs.Common.{◌≡◌, ℕ, List, [], ◌∷◌, ◌++◌, true, length, map, replicate, append_assoc, append-nil, refl, ap, sym, ◌∙◌, subst}
 use Rattle.std.specs.Prelude.{flat_map}
-use Rattle.guppy_support.specs.declared.digraph.Edge.{Edge}
+use Rattle.digraphs.specs.declared.digraph.Edge.{Edge}
 use Rattle.digraph_orders.specs.Laws.{OrderListsEach}
 use Rattle.digraph_orders.specs.Orders.{ListsEach}
 use Rattle.digraph_orders.specs.Sequences.{Sequence, IsOrderOf}
-use Rattle.order_views.specs.Cycles.{cyclic_components, nodes_of}
-use Rattle.order_views.specs.Views.{in_order}
+use Rattle.guppy_support.specs.Cycles.{cyclic_components, nodes_of}
+use Rattle.guppy_support.specs.Views.{in_order}
 use Rattle.guppy_packages.specs.Rows.{Text}
 use Rattle.guppy_packages.specs.Tables.{Tables}
 use Rattle.guppy_packages.specs.declared.direction.DependencyDirection.{DependencyDirection}

@@ -2,7 +2,7 @@
 use Rattle.std.proofs.Common.{◌≡◌, ℕ, zero, suc, ◌<◌, ◌≤◌, ◌⊎◌, inl, inr, ⊎_elim, List, [], ◌∷◌, length, refl, sym, ap, ◌∙◌, subst, arith}
 use Rattle.std.specs.Prelude.{slice_index}
 use Rattle.std.proofs.lemmas.List.{get_or_default}
-use Rattle.guppy_support.specs.Graph.{Graph}
+use Rattle.digraphs.specs.Graph.{Graph}
 use Rattle.digraph_orders.specs.Laws.{OneOrder, OrderListsEach}
 use Rattle.digraph_orders.specs.Orders.{ListsEach}
 use Rattle.digraph_orders.specs.Sequences.{Sequence, IsOrderOf, component_of}

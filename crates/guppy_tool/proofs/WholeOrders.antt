@@ -1,10 +1,10 @@
 -- The order of the set of all nodes.
 use Rattle.std.proofs.Common.{◌≡◌, ℕ, zero, suc, ◌<◌, Bool, true, List, [], ◌∷◌, length, filter, replicate, cond, refl, ap, ◌∙◌, arith}
 use Rattle.std.specs.Prelude.{slice_index, reverse}
-use Rattle.guppy_support.specs.Bits.{has}
+use Rattle.digraphs.specs.Bits.{has}
 use Rattle.digraph_orders.specs.Orders.{ListsEach}
-use Rattle.order_views.specs.Views.{in_order}
-use Rattle.order_views.specs.declared.reading.Reading.TheVariants as reading
+use Rattle.guppy_support.specs.Views.{in_order}
+use Rattle.guppy_support.specs.declared.reading.Reading.TheVariants as reading
 
 -- the set of all numbers below n contains each of them
 in_full : (n v : ℕ) → v < n → has (replicate n true) v ≡ true

@@ -11,7 +11,7 @@ use Rattle.feature_labels.specs.declared.link_declarations.LinkDeclarations.TheV
 use Rattle.feature_labels.specs.Lists.{Ascends, SameLabels, joined}
 use Rattle.feature_core.specs.Nodes.{nodes, labels_of}
 use Rattle.feature_core.specs.Errors as graph
-use Rattle.guppy_support.specs.Bits.{has}
+use Rattle.digraphs.specs.Bits.{has}
 use Rattle.digraph_orders.specs.Sequences.{Sequence, IsOrderOf}
 use Rattle.feature_graph.specs.Names.{AreKnown, HasPackage, IsFirstUnknown, HoldsExactly, at_places, names_of_nodes}
 use Rattle.feature_graph.specs.Explained.{AreTold}

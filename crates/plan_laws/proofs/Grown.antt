@@ -9,7 +9,7 @@ use Rattle.std.proofs.Math.Logic.{∥∥₁_elim}
 use Rattle.std.proofs.Props.{props}
 use Rattle.std.proofs.lemmas.Bool.{eqb-true}
 use Rattle.std.proofs.lemmas.List.Elements.{Contains-append_cases, Contains-append_left, Contains-append_right}
-use Rattle.guppy_support.specs.Bits.{has}
+use Rattle.digraphs.specs.Bits.{has}
 use Rattle.guppy_packages.specs.Items.{Item, slash_item}
 use Rattle.guppy_packages.specs.Rows.{Declared, Text}
 use Rattle.guppy_packages.specs.Tables.{AreTables, FeatureTable, LinkTable, PackageTable, Tables, has_name, pair_of}

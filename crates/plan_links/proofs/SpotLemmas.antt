@@ -6,9 +6,9 @@ use Rattle.std.proofs.lemmas.List.Elements.{Contains-append_cases, Contains-appe
 use Rattle.guppy_packages.proofs.Ascending.{All-of, Contains-first, Contains-none}
 use Rattle.guppy_packages.specs.Tables.{HasNoRepeats}
 use Rattle.guppy_packages.specs.declared.direction.DependencyDirection.TheVariants.{Forward}
-use Rattle.guppy_support.specs.Bits as bits
-use Rattle.guppy_support.specs.Bits.{has}
-use Rattle.guppy_support.proofs.SetLemmas.{has-Contains}
+use Rattle.digraphs.specs.Bits as bits
+use Rattle.digraphs.specs.Bits.{has}
+use Rattle.digraphs.proofs.SetLemmas.{has-Contains}
 use Rattle.feature_core.specs.Built.{Built, IsBuilt, ends_of}
 use Rattle.feature_core.specs.Nodes.{node_packages}
 use Rattle.feature_core.specs.Offers.{content_of}

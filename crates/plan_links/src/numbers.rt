@@ -1,8 +1,8 @@
 //! Lists of numbers, and sets of them.
 ghost use Rattle.std.specs.Prelude.{◌≡◌, ◌++◌, ◌∷◌, [], IfOk, OnOk, if◌then◌else◌};
-ghost use Rattle.guppy_support.specs.Bits.{has, members};
+ghost use Rattle.digraphs.specs.Bits.{has, members};
 
-use guppy_support::IxBitSet;
+use digraphs::IxBitSet;
 use std::alloc::{AllocError, Global};
 
 /// Returns whether `number` is in `set`; false for a number that isn't below its bound.

@@ -1,7 +1,7 @@
 //! Links between the packages that a plan builds.
 ghost use Rattle.std.specs.Prelude.{◌≡◌, ◌<◌, ◌≤◌, ◌^◌, IfOk, MatchOption, Some, false, length, map, slice_get};
 ghost use Rattle.std.specs.Option.{option_map_or};
-ghost use Rattle.guppy_support.specs.Bits.{has};
+ghost use Rattle.digraphs.specs.Bits.{has};
 ghost use Rattle.feature_labels.specs.Names.LabelName.{base};
 ghost use Rattle.guppy_packages.specs.Tables.{pair_of};
 ghost use Rattle.plan_steps.specs.PlanViews.{plan_text};
@@ -16,7 +16,7 @@ use crate::numbers::{holds, push_if};
 use crate::places::links_between;
 use feature_labels::FeatureLabel;
 use guppy_packages::PackageGraph;
-use guppy_support::IxBitSet;
+use digraphs::IxBitSet;
 use plan_steps::{Place, Plan, Unit};
 use std::alloc::{AllocError, Global};
 use step_visits::Visited;

@@ -1,6 +1,6 @@
 //! Links between the features that are on in a plan.
 ghost use Rattle.std.specs.Prelude.{◌≡◌, ◌++◌, ◌∷◌, [], IfOk, OnOk, if◌then◌else◌};
-ghost use Rattle.guppy_support.specs.Bits.{has};
+ghost use Rattle.digraphs.specs.Bits.{has};
 ghost use Rattle.plan_steps.specs.PlanViews.{plan_text};
 ghost use Rattle.walk_checks.specs.Tables.{IsEdge};
 ghost use Rattle.walk_engine.specs.Walks.{IsWay, Way};
@@ -13,7 +13,7 @@ use crate::places::links_between;
 use feature_core::Packed;
 use feature_core::graph_laws::content_of_graph;
 use guppy_packages::DependencyDirection;
-use guppy_support::IxBitSet;
+use digraphs::IxBitSet;
 use plan_steps::{PackageVisit, Plan};
 use std::alloc::{AllocError, Global};
 use walk_checks::{EdgeTable, TableEdge};

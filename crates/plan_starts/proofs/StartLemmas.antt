@@ -1,6 +1,6 @@
 -- The packages that start.
 use Rattle.std.proofs.Common.{◌≡◌, ◌&&◌, ◌∙◌, ℕ, Bool, true, false, List, ap}
-use Rattle.guppy_support.specs.Bits.{has}
+use Rattle.digraphs.specs.Bits.{has}
 use Rattle.cargo_workspaces.specs.Workspaces.{PackageText}
 use Rattle.plan_rows.specs.Tables.{each_from}
 use Rattle.plan_starts.specs.Starts.{Starts, is_among, started, starts_of, starts_on_host}

@@ -1,11 +1,11 @@
 //! Numbers and flags.
 ghost use Rattle.std.specs.Prelude.{◌≡◌, ℕ, IfOk, IsTrue, length, nat_lt};
 ghost use Rattle.std.specs.List.{list_all};
-ghost use Rattle.guppy_support.specs.Bits.{has};
+ghost use Rattle.digraphs.specs.Bits.{has};
 ghost use Rattle.plan_rows.specs.Tables.{flag_at};
 ghost use Rattle.plan_starts.specs.Starts.{is_among};
 
-use guppy_support::IxBitSet;
+use digraphs::IxBitSet;
 use std::alloc::{AllocError, Global};
 
 /// Returns the set of `numbers`, all below `count`.

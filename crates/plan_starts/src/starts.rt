@@ -1,7 +1,7 @@
 //! The packages that start, and where.
 ghost use Rattle.std.specs.Prelude.{◌≡◌, ◌&&◌, IfOk, IsTrue, length, map, nat_lt, true};
 ghost use Rattle.std.specs.List.{list_all};
-ghost use Rattle.guppy_support.specs.Bits.{has};
+ghost use Rattle.digraphs.specs.Bits.{has};
 ghost use Rattle.cargo_workspaces.specs.Views.{package_text};
 ghost use Rattle.plan_rows.specs.Steps as steps;
 ghost use Rattle.plan_rows.specs.Tables.{each_from};
@@ -15,7 +15,7 @@ use crate::marks::{flag_of, marks_of};
 use crate::package_visit::PackageVisit;
 use crate::targets::{TargetRules, builds};
 use cargo_workspaces::Package;
-use guppy_support::IxBitSet;
+use digraphs::IxBitSet;
 use plan_rows::{Platform, Side};
 use std::alloc::{AllocError, Global};
 

@@ -1,7 +1,7 @@
 //! Selected packages whose tests can't be built.
 ghost use Rattle.std.specs.Prelude.{◌≡◌, ℕ, IfOk, IsTrue, length, map, nat_lt};
 ghost use Rattle.std.specs.List.{list_all, list_any};
-ghost use Rattle.guppy_support.specs.Bits.{has};
+ghost use Rattle.digraphs.specs.Bits.{has};
 ghost use Rattle.cargo_workspaces.specs.Views.{declaration_text};
 ghost use Rattle.cargo_workspaces.specs.WorkspaceView.{workspace_text};
 ghost use Rattle.plan_rows.specs.Steps.{is_development};
@@ -10,7 +10,7 @@ ghost use Rattle.plan_starts.specs.Starts.{is_among};
 
 use crate::marks::marks_of;
 use cargo_workspaces::{Declaration, Kind, Workspace};
-use guppy_support::IxBitSet;
+use digraphs::IxBitSet;
 use std::alloc::{AllocError, Global};
 
 /// Returns whether one of `declarations` is for development.

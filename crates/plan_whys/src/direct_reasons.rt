@@ -2,7 +2,7 @@
 ghost use Rattle.std.specs.Prelude.{◌≡◌, ◌++◌, IfOk, OnOk, All, length, map};
 ghost use Rattle.std.specs.List.{AllZip};
 ghost use Rattle.guppy_packages.specs.declared.direction.DependencyDirection.TheVariants.{Forward};
-ghost use Rattle.guppy_support.specs.Bits.{has};
+ghost use Rattle.digraphs.specs.Bits.{has};
 ghost use Rattle.feature_core.specs.Nodes.{node_packages};
 ghost use Rattle.cargo_plans.specs.plan_steps.PlanViews.{plan_text};
 ghost use Rattle.walk_checks.specs.Tables.{IsEdge};
@@ -20,7 +20,7 @@ use cargo_plans::{PackageVisit, Plan};
 use feature_core::Packed;
 use feature_core::graph_laws::content_of_graph;
 use guppy_packages::DependencyDirection;
-use guppy_support::IxBitSet;
+use digraphs::IxBitSet;
 use std::alloc::{AllocError, Global};
 use walk_checks::{EdgeTable, TableEdge};
 use walk_engine::{Ask, Half, StepReason};

@@ -1,7 +1,7 @@
 //! The explanation of a walk, and the part of it on which one node rests.
 ghost use Rattle.std.specs.Prelude.{◌≡◌, ◌↔◌, ℕ, IfOk, IsFalse, IsTrue, MatchOption, length, true};
 ghost use Rattle.guppy_packages.specs.declared.direction.DependencyDirection.TheVariants.{Forward};
-ghost use Rattle.guppy_support.specs.Bits.{has};
+ghost use Rattle.digraphs.specs.Bits.{has};
 ghost use Rattle.feature_core.specs.Offers.{content_of};
 ghost use Rattle.walk_checks.specs.Whys.{IsWhy};
 ghost use Rattle.walk_engine.specs.Explanations.{IsExplanation, nodes_of};
@@ -11,7 +11,7 @@ ghost use Rattle.walk_engine.specs.Walks.{Least, is_in};
 use feature_core::laws::{agrees_by_answer, walk_is_exact};
 use feature_core::{FeatureGraphData, Packed};
 use guppy_packages::DependencyDirection;
-use guppy_support::IxBitSet;
+use digraphs::IxBitSet;
 use std::alloc::{AllocError, Global};
 use walk_engine::{Half, Offerer, Step, walk_explained};
 

@@ -2,7 +2,7 @@
 ghost use Rattle.std.specs.Prelude.{◌≡◌, ℕ, IfOk, length, map, option_map};
 ghost use Rattle.std.specs.List.{AllZip};
 ghost use Rattle.guppy_packages.specs.declared.direction.DependencyDirection.TheVariants.{Forward};
-ghost use Rattle.guppy_support.specs.Bits.{has};
+ghost use Rattle.digraphs.specs.Bits.{has};
 ghost use Rattle.feature_core.specs.Built.{IsBuilt};
 ghost use Rattle.feature_core.specs.Nodes.{node_packages};
 ghost use Rattle.feature_core.specs.Offers.{content_of};
@@ -19,7 +19,7 @@ use crate::steps::{Spot, WhyStep};
 use cargo_plans::PackageVisit;
 use feature_core::FeatureGraphData;
 use feature_core::graph_laws::content_of_graph;
-use guppy_support::IxBitSet;
+use digraphs::IxBitSet;
 use std::alloc::{AllocError, Global};
 use walk_engine::Step;
 

@@ -1,6 +1,6 @@
 //! Why a label is on in a plan.
 ghost use Rattle.std.specs.Prelude.{◌≡◌, ℕ, IfOk, length, map, option_map};
-ghost use Rattle.guppy_support.specs.Bits.{has};
+ghost use Rattle.digraphs.specs.Bits.{has};
 ghost use Rattle.cargo_plans.specs.Plans.{IsPlanOf};
 ghost use Rattle.cargo_plans.specs.WordsView.{words_text};
 ghost use Rattle.cargo_workspaces.specs.WorkspaceView.{workspace_text};
@@ -18,7 +18,7 @@ use crate::steps::{Spot, WhyStep};
 use cargo_plans::{PackageVisit, Plan, PlanWords, Platform, Settings, on_places};
 use cargo_workspaces::Workspace;
 use feature_core::graph_laws::one_content;
-use guppy_support::IxBitSet;
+use digraphs::IxBitSet;
 use plan_words::choose;
 use std::alloc::{AllocError, Global};
 

@@ -2,7 +2,7 @@
 use Rattle.std.specs.Prelude.{◌≡◌, ◌↔◌, ◌==◌, ◌&&◌, ℕ, Bool, false, List, Option, Ok, IsTrue, position}
 use Rattle.std.specs.List.{list_any}
 use Rattle.std.specs.Option.{option_map_or}
-use Rattle.guppy_support.specs.Bits.{has}
+use Rattle.digraphs.specs.Bits.{has}
 use Rattle.guppy_packages.specs.Graph.{tables_of}
 use Rattle.guppy_packages.specs.Rows.{RowText}
 use Rattle.guppy_packages.specs.Tables.{Tables}

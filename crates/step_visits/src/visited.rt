@@ -1,6 +1,6 @@
 //! The features that a visit reaches.
 ghost use Rattle.std.specs.Prelude.{◌≡◌, ◌<◌, ℕ, IfOk, length, map};
-ghost use Rattle.guppy_support.specs.Bits.{has};
+ghost use Rattle.digraphs.specs.Bits.{has};
 ghost use Rattle.feature_labels.specs.Names.{label_of};
 ghost use Rattle.feature_core.specs.Built.{IsBuilt};
 ghost use Rattle.feature_core.specs.Nodes.{NodeAt, node_packages};
@@ -10,7 +10,7 @@ use crate::visiting::start_nodes;
 use feature_core::FeatureGraphData;
 use feature_labels::{FeatureId, FeatureLabel};
 use guppy_packages::PackageGraph;
-use guppy_support::IxBitSet;
+use digraphs::IxBitSet;
 use std::alloc::{AllocError, Global};
 use std::marker::Model;
 

@@ -1,6 +1,6 @@
 //! Visits the features that some features turn on.
 ghost use Rattle.std.specs.Prelude.{◌≡◌, ◌↔◌, ◌||◌, ℕ, true, IfOk, IsTrue, length, map};
-ghost use Rattle.guppy_support.specs.Bits.{has};
+ghost use Rattle.digraphs.specs.Bits.{has};
 ghost use Rattle.feature_core.specs.Built.{IsBuilt};
 ghost use Rattle.feature_labels.specs.Names.{label_of};
 ghost use Rattle.step_visits.specs.Visits.{IsReached, IsVisit, is_node, is_start, node_at, place_view};
@@ -12,7 +12,7 @@ use feature_core::laws::agrees_by_answer;
 use feature_core::{FeatureGraphData, walk};
 use feature_labels::FeatureLabel;
 use guppy_packages::{DependencyDirection, PackageGraph};
-use guppy_support::IxBitSet;
+use digraphs::IxBitSet;
 use std::alloc::{AllocError, Global};
 
 /// An offerer that accepts each offer.

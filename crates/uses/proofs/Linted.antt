@@ -3,7 +3,7 @@ use Rattle.std.proofs.Common.{◌≡◌, ◌+◌, ◌<◌, ◌++◌, ◌∷◌, 
 use Rattle.std.specs.Prelude.{◌↔◌, All, IsTrue, IsFalse}
 use Rattle.std.proofs.lemmas.List.Elements.{All-more}
 use Rattle.std.proofs.lemmas.Option.{none-some}
-use Rattle.guppy_features.specs.guppy_support.Bits.{has}
+use Rattle.guppy_features.specs.digraphs.Bits.{has}
 use Rattle.guppy_features.specs.guppy_packages.Rows.{Text}
 use Rattle.guppy_features.specs.feature_core.Built.{NodeNamed}
 use Rattle.guppy_features.specs.feature_labels.Names.{LabelName, id_of}

@@ -1,7 +1,7 @@
 -- Reach from the nodes of one name, and from nodes with a property.
 use Rattle.std.proofs.Common.{◌≡◌, ℕ, zero, suc, Bool, true, false, not, ◌&&◌, List, [], ◌∷◌, Some, refl, subst}
 use Rattle.std.specs.Prelude.{◌↔◌, IsTrue, slice_get}
-use Rattle.guppy_features.specs.guppy_support.Bits.{has}
+use Rattle.guppy_features.specs.digraphs.Bits.{has}
 use Rattle.guppy_features.specs.guppy_packages.Rows.{Text}
 use Rattle.guppy_features.specs.guppy_packages.Tables.{Tables}
 use Rattle.guppy_features.specs.guppy_packages.declared.direction.DependencyDirection.{DependencyDirection}

@@ -2,7 +2,7 @@
 use Rattle.std.proofs.Common.{◌≡◌, ℕ, zero, suc, ◌⊎◌, inl, inr, ⊎_elim, Bool, true, false, List, [], ◌∷◌, map, Option, Some, refl, sym, ◌∙◌, ap, subst, arith}
 use Rattle.std.specs.Prelude.{◌↔◌, IsTrue, slice_get, Contains}
 use Rattle.std.specs.Option.{option_map_or}
-use Rattle.guppy_features.specs.guppy_support.Bits.{has}
+use Rattle.guppy_features.specs.digraphs.Bits.{has}
 use Rattle.guppy_features.specs.guppy_packages.Rows.{Text}
 use Rattle.guppy_features.specs.guppy_packages.Tables.{Tables}
 use Rattle.guppy_features.specs.feature_labels.Names.{LabelName}

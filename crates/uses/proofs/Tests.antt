@@ -3,7 +3,7 @@ use Rattle.std.proofs.Common.{◌≡◌, ◌∙◌, ◌+◌, ◌-◌, ◌^◌, �
 use Rattle.std.specs.Prelude.{min, IfOk, OnErr, Result, Ok, Err}
 use Rattle.std.proofs.Math.Nat.{min-eq_left}
 use Rattle.std.specs.List.{list_any}
-use Rattle.guppy_features.specs.guppy_support.Bits.{has}
+use Rattle.guppy_features.specs.digraphs.Bits.{has}
 use Rattle.guppy_features.specs.walk_engine.Laws.{AnswersBy}
 use Rattle.guppy_features.specs.walk_engine.Walks.{Agrees, Call, GoesAlong, IsComplete, IsLegal}
 use Rattle.guppy_features.specs.feature_graph.LinkValues.{Link}

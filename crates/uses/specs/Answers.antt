@@ -3,7 +3,7 @@ use Rattle.std.specs.Prelude.{◌≡◌, ◌⊎◌, ◌<◌, ◌+◌, ◌^◌, �
 use Rattle.std.specs.List.{list_any}
 use Rattle.std.specs.Option.{option_map_or}
 use Rattle.std.specs.Str.{bytes_eq}
-use Rattle.guppy_features.specs.guppy_support.Bits.{has}
+use Rattle.guppy_features.specs.digraphs.Bits.{has}
 use Rattle.guppy_features.specs.guppy_packages.Platform.{Status, never_status, always_status, spec_status}
 use Rattle.guppy_features.specs.guppy_packages.Rows.{Text}
 use Rattle.guppy_features.specs.guppy_packages.Tables.{Tables}

@@ -1,6 +1,6 @@
 -- What a policy linter answers.
 use Rattle.std.specs.Prelude.{◌≡◌, ◌⊎◌, ℕ, Bool, List, Some, slice_get}
-use Rattle.guppy_features.specs.guppy_support.Bits.{has}
+use Rattle.guppy_features.specs.digraphs.Bits.{has}
 use Rattle.guppy_features.specs.guppy_packages.Rows.{Text}
 use Rattle.guppy_features.specs.feature_labels.Names.{LabelName, id_of}
 use Rattle.guppy_features.specs.feature_core.Built.{NodeNamed}

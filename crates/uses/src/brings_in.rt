@@ -1,6 +1,6 @@
 //! The features that a feature turns on, and those that turn it on.
 ghost use Rattle.std.specs.Prelude.{◌≡◌, ◌↔◌, ℕ, IsTrue, IfOk};
-ghost use Rattle.guppy_features.specs.guppy_support.Bits.{has};
+ghost use Rattle.guppy_features.specs.digraphs.Bits.{has};
 ghost use Rattle.guppy_features.specs.feature_labels.Names.{id_of};
 ghost use Rattle.guppy_features.specs.feature_graph.Views.{graph_of, tables_of_graph};
 ghost use Rattle.uses.specs.Answers.{IsLedTo};

@@ -1,6 +1,6 @@
 //! The difference of two sets: the features that default features add, package by package.
 ghost use Rattle.std.specs.Prelude.{◌↔◌, ℕ, IsTrue, IfOk};
-ghost use Rattle.guppy_features.specs.guppy_support.Bits.{has};
+ghost use Rattle.guppy_features.specs.digraphs.Bits.{has};
 ghost use Rattle.guppy_features.specs.feature_labels.Names.{id_of};
 ghost use Rattle.guppy_features.specs.feature_graph.Views.{tables_of_graph};
 ghost use Rattle.uses.specs.Answers.{IsLedTo};

@@ -1,6 +1,6 @@
 //! A policy linter: which forbidden features a build for a platform turns on, and why.
 ghost use Rattle.std.specs.Prelude.{◌≡◌, ℕ, IsFalse, IfOk, MatchOption, All, map};
-ghost use Rattle.guppy_features.specs.guppy_support.Bits.{has};
+ghost use Rattle.guppy_features.specs.digraphs.Bits.{has};
 ghost use Rattle.guppy_features.specs.feature_core.Built.{NodeNamed};
 ghost use Rattle.guppy_features.specs.feature_labels.Names.{id_of};
 ghost use Rattle.guppy_features.specs.Platforms.{platform_offers};

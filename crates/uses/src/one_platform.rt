@@ -2,7 +2,7 @@
 ghost use Rattle.std.specs.Prelude.{◌≡◌, ◌↔◌, ℕ, IsTrue, IfOk};
 ghost use Rattle.std.specs.List.{list_any};
 ghost use Rattle.std.specs.Str.{bytes_eq};
-ghost use Rattle.guppy_features.specs.guppy_support.Bits.{has};
+ghost use Rattle.guppy_features.specs.digraphs.Bits.{has};
 ghost use Rattle.guppy_features.specs.guppy_packages.Platform.{spec_text, status_of};
 ghost use Rattle.guppy_features.specs.walk_engine.Walks.{Least};
 ghost use Rattle.guppy_features.specs.feature_graph.Visits.{query_content};

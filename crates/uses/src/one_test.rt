@@ -1,6 +1,6 @@
 //! One visitor in each form in which it can be handed over: itself, lent, in a box among others, as a closure.
 ghost use Rattle.std.specs.Prelude.{◌≡◌, ◌↔◌, ◌+◌, ◌-◌, ◌^◌, ℕ, min, IsTrue, IfOk};
-ghost use Rattle.guppy_features.specs.guppy_support.Bits.{has};
+ghost use Rattle.guppy_features.specs.digraphs.Bits.{has};
 ghost use Rattle.guppy_features.specs.walk_engine.Walks.{Least};
 ghost use Rattle.guppy_features.specs.feature_graph.LinkViews.{link_of};
 ghost use Rattle.guppy_features.specs.feature_graph.Visits.{query_content};

@@ -1,6 +1,6 @@
 //! The features that `cargo build` selects in the workspace, without and with `--features`, and those that they turn on.
 ghost use Rattle.std.specs.Prelude.{◌≡◌, ◌↔◌, ℕ, IsTrue, IfOk, map};
-ghost use Rattle.guppy_features.specs.guppy_support.Bits.{has};
+ghost use Rattle.guppy_features.specs.digraphs.Bits.{has};
 ghost use Rattle.guppy_features.specs.feature_graph.Views.{graph_of, tables_of_graph};
 ghost use Rattle.uses.specs.Answers.{IsSelected, IsSelectedOrNeeded};
 

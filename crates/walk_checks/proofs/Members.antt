@@ -4,7 +4,7 @@ use Rattle.std.specs.Prelude.{IsTrue, IsFalse, ◌==◌, filter}
 use Rattle.std.specs.List.{range_with_len}
 use Rattle.std.proofs.lemmas.Bool.{eqb-true}
 use Rattle.std.proofs.lemmas.Bool.Decides.{eqb_tells}
-use Rattle.guppy_support.specs.Bits.{has, members}
+use Rattle.digraphs.specs.Bits.{has, members}
 use Rattle.walk_engine.specs.Walks.{is_in}
 use Rattle.walk_checks.proofs.Bools.{decide, or_left, or_right, and_both, and_intro}
 use Rattle.walk_checks.proofs.Numbers.{has_within}

@@ -1,7 +1,7 @@
 //! Whether an explanation is exact: it names no refused offer, and leaves nothing out.
 
 ghost use Rattle.std.specs.Prelude.{◌≡◌, ◌<◌, ◌↔◌, ℕ, Some, IsTrue, IfOk, length, slice_get, not};
-ghost use Rattle.guppy_support.specs.Bits.{has};
+ghost use Rattle.digraphs.specs.Bits.{has};
 ghost use Rattle.walk_engine.specs.Walks.{Content, Way, IsWay, EndsAreNodes, is_in};
 ghost use Rattle.walk_engine.specs.Explanations.{nodes_of};
 ghost use Rattle.walk_engine.specs.declared.walks.Half.{Half};
@@ -12,7 +12,7 @@ ghost use Rattle.walk_checks.specs.inner.Tests.{has_mark, unmarked, is_open_by, 
 use crate::explained::explains;
 use crate::refusals::Refusals;
 use crate::table::{EdgeTable, TableEdge, holds, is_offered, is_unasked};
-use guppy_support::IxBitSet;
+use digraphs::IxBitSet;
 use std::alloc::{AllocError, Global};
 use walk_engine::{Half, Step, StepReason};
 

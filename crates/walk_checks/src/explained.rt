@@ -1,13 +1,13 @@
 //! Whether steps explain their nodes.
 
 ghost use Rattle.std.specs.Prelude.{◌≡◌, ◌<◌, ◌↔◌, ℕ, List, IsTrue, IsFalse, IfOk, length, take};
-ghost use Rattle.guppy_support.specs.Bits.{has};
+ghost use Rattle.digraphs.specs.Bits.{has};
 ghost use Rattle.walk_engine.specs.Walks.{Content, EndsAreNodes, is_in};
 ghost use Rattle.walk_engine.specs.Explanations.{IsReason, IsExplanation, nodes_of};
 ghost use Rattle.walk_engine.specs.Laws.{every};
 
 use crate::table::{EdgeTable, holds, is_offered, is_unasked, leads_to};
-use guppy_support::IxBitSet;
+use digraphs::IxBitSet;
 use std::alloc::{AllocError, Global};
 use walk_engine::{Step, StepReason};
 

@@ -1,14 +1,14 @@
 //! Refused offers, looked up by edge and half.
 
 ghost use Rattle.std.specs.Prelude.{◌≡◌, ◌<◌, ◌||◌, ◌&&◌, ◌==◌, ℕ, IfOk, length, false};
-ghost use Rattle.guppy_support.specs.Bits.{has};
+ghost use Rattle.digraphs.specs.Bits.{has};
 ghost use Rattle.walk_engine.specs.declared.walks.Half.{Half};
 ghost use Rattle.walk_engine.specs.Walks.{is_half};
 ghost use Rattle.walk_checks.specs.Exact.{is_refused};
 ghost use Rattle.walk_checks.specs.inner.Tests.{has_mark, AreSized};
 
 use crate::table::holds;
-use guppy_support::IxBitSet;
+use digraphs::IxBitSet;
 use std::alloc::{AllocError, Global};
 use walk_engine::Half;
 

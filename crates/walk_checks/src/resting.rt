@@ -1,7 +1,7 @@
 //! The steps on which one node rests.
 
 ghost use Rattle.std.specs.Prelude.{◌≡◌, ◌<◌, ◌↔◌, ◌⊎◌, ℕ, Bool, List, IsTrue, IsFalse, IfOk, MatchOption, length};
-ghost use Rattle.guppy_support.specs.Bits.{has};
+ghost use Rattle.digraphs.specs.Bits.{has};
 ghost use Rattle.walk_engine.specs.Walks.{Content, EndsAreNodes, is_in};
 ghost use Rattle.walk_engine.specs.Explanations.{IsExplanation, nodes_of};
 ghost use Rattle.walk_engine.specs.declared.walks.Half.{Half};
@@ -9,7 +9,7 @@ ghost use Rattle.walk_checks.specs.Whys.{Leans, IsWhy};
 ghost use Rattle.walk_checks.specs.inner.Backwards.{IsBack};
 
 use crate::table::{EdgeTable, has_gate, holds};
-use guppy_support::IxBitSet;
+use digraphs::IxBitSet;
 use std::alloc::{AllocError, Global};
 use walk_engine::{Step, StepReason};
 

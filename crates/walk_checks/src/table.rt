@@ -1,12 +1,12 @@
 //! Edges that are looked up by number.
 
 ghost use Rattle.std.specs.Prelude.{◌≡◌, ◌<◌, ◌&&◌, ◌||◌, ◌==◌, not, ℕ, length, slice_get};
-ghost use Rattle.guppy_support.specs.Bits.{has};
+ghost use Rattle.digraphs.specs.Bits.{has};
 ghost use Rattle.walk_engine.specs.Walks.{Content, EndsAreNodes, has_half, has_gate, starting};
 ghost use Rattle.walk_checks.specs.Tables.{Tells};
 ghost use Rattle.walk_checks.specs.inner.Tests.{is_unasked, is_offered, leads_to};
 
-use guppy_support::IxBitSet;
+use digraphs::IxBitSet;
 use walk_engine::{Ask, Half};
 
 /// An edge as one direction follows it.

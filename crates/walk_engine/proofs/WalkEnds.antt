@@ -8,7 +8,7 @@ use Rattle.walk_engine.specs.declared.walks.Half.{Half}
 use Rattle.walk_engine.specs.declared.walks.Half.TheVariants.{Full, Required, Optional}
 use Rattle.walk_engine.specs.declared.walks.Ask.{Ask}
 use Rattle.walk_engine.specs.declared.walks.Ask.TheVariants as asks
-use Rattle.guppy_support.specs.Bits.{has, members}
+use Rattle.digraphs.specs.Bits.{has, members}
 use Rattle.std.specs.List.{range_with_len}
 use Rattle.walk_engine.specs.Walks.{edges_from, edges_gated_by, Content, Way, IsWay, Reach, IsDue, IsWalk, LegalRun, was_accepted, has_gate, is_gated, is_in, numbers_where, starting, releasing}
 use Rattle.walk_engine.specs.declared.walks.progress.Condition.TheVariants.{Start, Gate}

@@ -7,7 +7,7 @@ use Rattle.std.proofs.lemmas.List.{append-nil}
 use Rattle.walk_engine.specs.declared.walks.Half.{Half}
 use Rattle.walk_engine.specs.declared.walks.Ask.{Ask}
 use Rattle.walk_engine.specs.declared.walks.Ask.TheVariants as asks
-use Rattle.guppy_support.specs.Bits.{has}
+use Rattle.digraphs.specs.Bits.{has}
 use Rattle.walk_engine.specs.Walks.{Content, Way, IsWay, is_gated, is_in}
 use Rattle.walk_engine.specs.declared.walks.progress.Condition.{Condition}
 use Rattle.walk_engine.specs.declared.walks.progress.Condition.TheVariants.{Start, Gate}

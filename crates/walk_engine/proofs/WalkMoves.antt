@@ -6,7 +6,7 @@ use Rattle.walk_engine.specs.declared.walks.Half.{Half}
 use Rattle.walk_engine.specs.declared.walks.Half.TheVariants.{Full, Required, Optional}
 use Rattle.walk_engine.specs.declared.walks.Ask.{Ask}
 use Rattle.walk_engine.specs.declared.walks.Ask.TheVariants as asks
-use Rattle.guppy_support.specs.Bits.{has}
+use Rattle.digraphs.specs.Bits.{has}
 use Rattle.walk_engine.specs.Walks.{Content, Way, Call, IsWay, has_half, has_gate, has_turn, is_gated, Reach, was_made, was_accepted, is_of, is_half, IsDue, is_in}
 use Rattle.walk_engine.specs.declared.walks.Step.{Step}
 use Rattle.walk_engine.specs.declared.walks.StepReason.{StepReason}

@@ -3,7 +3,7 @@ use Rattle.std.specs.Prelude.{IsTrue, IsFalse, slice_get, slice_set, ◌==◌, c
 use Rattle.std.proofs.lemmas.List.Sums.{count_by-le-length, sum_by-cons}
 use Rattle.std.proofs.lemmas.Bool.{eqb-true, eq-eqb}
 use Rattle.std.proofs.lemmas.Bool.Decides.{eqb_tells}
-use Rattle.guppy_support.specs.Bits.{has}
+use Rattle.digraphs.specs.Bits.{has}
 use Rattle.walk_engine.specs.Walks.{Way, numbers_where, is_in}
 use Rattle.walk_engine.specs.Explanations.{Distinct}
 use Rattle.walk_engine.proofs.Answered.{decide, or_cases, or_left, or_right, clash}

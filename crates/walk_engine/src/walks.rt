@@ -1,14 +1,14 @@
 //! Walks over the edges of a source. Before a walk follows a conditional edge, it asks an offerer.
 
 ghost use Rattle.std.specs.Prelude.{◌≡◌, ◌+◌, ◌*◌, ◌^◌, ◌<◌, ◌≤◌, ℕ, Bool, List, IfOk, OnErr, length, slice_get, count_by};
-ghost use Rattle.guppy_support.specs.Bits.{has};
+ghost use Rattle.digraphs.specs.Bits.{has};
 ghost use Rattle.walk_engine.specs.Walks.{Content, EndsAreNodes, IsWalk, LegalRun, MayAsk, starting, releasing, told, ReadsAreBounded};
 ghost use Rattle.walk_engine.specs.Explanations.{IsExplainedWalk};
 ghost use Rattle.walk_engine.specs.declared.walks.Half.{Half};
 
 mod progress;
 
-use guppy_support::IxBitSet;
+use digraphs::IxBitSet;
 use progress::walk_found;
 use std::alloc::{AllocError, Global};
 

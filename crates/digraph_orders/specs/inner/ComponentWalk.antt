@@ -1,9 +1,9 @@
 -- The state of the walk that finds components.
 use Rattle.std.specs.Prelude.{◌≡◌, ◌≢◌, ℕ, ◌+◌, ◌-◌, ◌*◌, ◌<◌, ◌≤◌, ◌==◌, Bool, true, false, List, length, sum_by, slice_index}
-use Rattle.guppy_support.specs.Paths.{HasEdge, Path, SameComponent}
-use Rattle.guppy_support.specs.Graph.{Graph, sources}
-use Rattle.guppy_support.specs.Rows.{places}
-use Rattle.guppy_support.specs.Bits.{has}
+use Rattle.digraphs.specs.Paths.{HasEdge, Path, SameComponent}
+use Rattle.digraphs.specs.Graph.{Graph, sources}
+use Rattle.digraphs.specs.Rows.{places}
+use Rattle.digraphs.specs.Bits.{has}
 use Rattle.digraph_orders.specs.inner.Counts.{count_below}
 use Rattle.digraph_orders.specs.inner.NodeEdges.{target_at}
 use Rattle.digraph_orders.specs.declared.components.walk.Walk.{Walk}

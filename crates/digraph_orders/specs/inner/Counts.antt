@@ -1,7 +1,7 @@
 -- Counts of the remaining edges for each component and for each node.
 use Rattle.std.specs.Prelude.{◌≡◌, ℕ, zero, suc, ◌+◌, ◌<◌, Bool, false, cond, ◌&&◌, ◌==◌, not, List, length, map, slice_index, slice_index_or}
-use Rattle.guppy_support.specs.declared.digraph.Edge.{Edge}
-use Rattle.guppy_support.specs.Graph.{sources, targets}
+use Rattle.digraphs.specs.declared.digraph.Edge.{Edge}
+use Rattle.digraphs.specs.Graph.{sources, targets}
 
 -- The number of `k` below `n` that pass the test.
 abbrev pub count_below : (ℕ → Bool) → ℕ → ℕ

@@ -1,8 +1,8 @@
 -- The components of a digraph by rank.
 use Rattle.std.specs.Prelude.{◌≡◌, ◌≢◌, ℕ, ◌<◌, ◌≤◌, true, false, List, Bool, length, slice_index}
-use Rattle.guppy_support.specs.Bits.{has}
-use Rattle.guppy_support.specs.PackedRows.{IsPacked}
-use Rattle.guppy_support.specs.Rows.{places}
+use Rattle.digraphs.specs.Bits.{has}
+use Rattle.digraphs.specs.PackedRows.{IsPacked}
+use Rattle.digraphs.specs.Rows.{places}
 use Rattle.digraph_orders.specs.declared.order.groups.Groups.{Groups}
 
 -- The set has each of the first `k` nodes whose rank is another node, and that node.

@@ -1,7 +1,7 @@
 -- The head of a component: its node that is next.
 use Rattle.std.specs.Prelude.{◌≡◌, ◌≢◌, ℕ, ◌<◌, ◌⊎◌, Bool, true, false, List, slice_index, slice_index_or, Contains}
-use Rattle.guppy_support.specs.Paths.{HasEdge}
-use Rattle.guppy_support.specs.Graph.{Graph}
+use Rattle.digraphs.specs.Paths.{HasEdge}
+use Rattle.digraphs.specs.Graph.{Graph}
 use Rattle.digraph_orders.specs.Orders.{IsHeld}
 
 abbrev pub IsDone : List Bool → ℕ → Type 0

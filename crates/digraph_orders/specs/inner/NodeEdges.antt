@@ -1,8 +1,8 @@
 -- The other end of each edge of a node.
 use Rattle.std.specs.Prelude.{ℕ, List, slice_index}
-use Rattle.guppy_support.specs.declared.digraph.Edge.{Edge}
-use Rattle.guppy_support.specs.Graph.{sources, targets, source_of, target_of}
-use Rattle.guppy_support.specs.Rows.{places}
+use Rattle.digraphs.specs.declared.digraph.Edge.{Edge}
+use Rattle.digraphs.specs.Graph.{sources, targets, source_of, target_of}
+use Rattle.digraphs.specs.Rows.{places}
 
 -- The target of the `k`-th edge that leaves `v`.
 abbrev pub target_at : List Edge → ℕ → ℕ → ℕ

@@ -1,6 +1,6 @@
 -- How an order stores its places, and its components by number.
 use Rattle.std.specs.Prelude.{◌≡◌, ◌≢◌, ℕ, ◌+◌, ◌-◌, ◌<◌, ◌≤◌, ◌==◌, List, length, map, filter, slice_index, slice_range}
-use Rattle.guppy_support.specs.PackedRows.{AreBegun}
+use Rattle.digraphs.specs.PackedRows.{AreBegun}
 
 -- `places` has the place of each node in `list`.
 pub record ArePlaces (list places : List ℕ) : Type 0 where

@@ -1,9 +1,9 @@
 -- The state between two nodes of the order.
 use Rattle.std.specs.Prelude.{◌≡◌, ◌≢◌, ℕ, ◌+◌, ◌<◌, ◌≤◌, ◌⊎◌, Bool, true, false, ◌||◌, ◌&&◌, ◌==◌, cond, not, List, [], ◌∷◌, length, map, nat_lt, set, take, drop, slice_index, slice_index_or, Contains}
-use Rattle.guppy_support.specs.declared.digraph.Edge.{Edge}
-use Rattle.guppy_support.specs.Graph.{Graph, IsDigraph, sources, targets}
-use Rattle.guppy_support.specs.Bits.{has, members}
-use Rattle.guppy_support.specs.Rows.{places}
+use Rattle.digraphs.specs.declared.digraph.Edge.{Edge}
+use Rattle.digraphs.specs.Graph.{Graph, IsDigraph, sources, targets}
+use Rattle.digraphs.specs.Bits.{has, members}
+use Rattle.digraphs.specs.Rows.{places}
 use Rattle.digraph_orders.specs.inner.Ranks.{IsRanking}
 use Rattle.digraph_orders.specs.Orders.{IsNext}
 use Rattle.digraph_orders.specs.inner.Queues.{Joins}

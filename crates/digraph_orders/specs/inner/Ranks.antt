@@ -1,7 +1,7 @@
 -- Numbers of components.
 use Rattle.std.specs.Prelude.{◌≡◌, ℕ, ◌<◌, ◌≤◌, List, length, slice_index}
-use Rattle.guppy_support.specs.Paths.{HasEdge, SameComponent}
-use Rattle.guppy_support.specs.Graph.{Graph}
+use Rattle.digraphs.specs.Paths.{HasEdge, SameComponent}
+use Rattle.digraphs.specs.Graph.{Graph}
 
 -- Levels never fall along an edge, and two nodes have one level only if they are in one component.
 pub record AreLevels (g : Graph) (levels : List ℕ) : Type 0 where

@@ -1,13 +1,13 @@
 //! The depth-first walk that finds components.
 ghost use Rattle.std.specs.Prelude.{◌≡◌, ◌≢◌, ℕ, ◌+◌, ◌-◌, ◌*◌, ◌^◌, ◌<◌, ◌≤◌, length, IfOk, OnOk, slice_index, true};
-ghost use Rattle.guppy_support.specs.Bits.{has};
-ghost use Rattle.guppy_support.specs.Graph.{sources};
-ghost use Rattle.guppy_support.specs.Paths.{HasEdge, Path};
-ghost use Rattle.guppy_support.specs.Rows.{places};
+ghost use Rattle.digraphs.specs.Bits.{has};
+ghost use Rattle.digraphs.specs.Graph.{sources};
+ghost use Rattle.digraphs.specs.Paths.{HasEdge, Path};
+ghost use Rattle.digraphs.specs.Rows.{places};
 ghost use Rattle.digraph_orders.specs.inner.NodeEdges.{target_at};
 ghost use Rattle.digraph_orders.specs.inner.ComponentWalk.{IsWalk, IsInOrFrom, IsFrontOf, AreGiven, steps_left};
 
-use guppy_support::{Digraph, IxBitSet, zeroes};
+use digraphs::{Digraph, IxBitSet, zeroes};
 use std::alloc::{AllocError, Global};
 
 /// The state of the walk. It keeps its own stack, so deep graphs don't overflow the call stack.

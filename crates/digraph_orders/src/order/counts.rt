@@ -1,16 +1,16 @@
 //! Counts made before the first node is listed: the edges that enter each component, and those that hold each
 //! node.
 ghost use Rattle.std.specs.Prelude.{◌≡◌, ◌≢◌, ℕ, [], ◌+◌, ◌-◌, ◌<◌, ◌≤◌, length, slice_index, IfOk, false, replicate, set};
-ghost use Rattle.guppy_support.specs.Bits.{members};
-ghost use Rattle.guppy_support.specs.Graph.{IsDigraph};
-ghost use Rattle.guppy_support.specs.Rows.{places};
+ghost use Rattle.digraphs.specs.Bits.{members};
+ghost use Rattle.digraphs.specs.Graph.{IsDigraph};
+ghost use Rattle.digraphs.specs.Rows.{places};
 ghost use Rattle.digraph_orders.specs.inner.Groups.{AreGroups};
 ghost use Rattle.digraph_orders.specs.inner.Plans.{IsSetup, IsPauseIn, IsEdge, AreEntering, AreDegrees, AreCounted, AreHolding, AreFirsts, HasRoom};
 
 use crate::order::groups::Groups;
 use crate::order::listing::{Plan, first_of};
 use crate::order::queue::Queue;
-use guppy_support::{Digraph, Edge, IxBitSet, zeroes};
+use digraphs::{Digraph, Edge, IxBitSet, zeroes};
 use std::alloc::{AllocError, Global};
 
 /// Returns the edge with this number.

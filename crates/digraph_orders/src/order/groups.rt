@@ -1,10 +1,10 @@
 //! The nodes of each component, by its rank.
 ghost use Rattle.std.specs.Prelude.{◌≡◌, ℕ, ◌<◌, length, slice_index, IfOk, IsTrue, true, false};
-ghost use Rattle.guppy_support.specs.Bits.{has};
-ghost use Rattle.guppy_support.specs.Rows.{places};
+ghost use Rattle.digraphs.specs.Bits.{has};
+ghost use Rattle.digraphs.specs.Rows.{places};
 ghost use Rattle.digraph_orders.specs.inner.Groups.{AreGroups, HaveOthers, IsAlone};
 
-use guppy_support::{IxBitSet, Rows, pack_rows};
+use digraphs::{IxBitSet, Rows, pack_rows};
 use std::alloc::{AllocError, Global};
 
 /// The nodes of each component.

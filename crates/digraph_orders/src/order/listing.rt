@@ -1,8 +1,8 @@
 //! The state between two nodes of the order, and the steps that list the next one.
 ghost use Rattle.std.specs.Prelude.{◌≡◌, ◌≢◌, ℕ, [], ◌∷◌, ◌++◌, ◌+◌, ◌-◌, ◌<◌, ◌≤◌, length, slice_index, slice_set, IfSome, IfNone, IfOk, OnOk, Contains, set, true, false};
-ghost use Rattle.guppy_support.specs.Graph.{IsDigraph, sources};
-ghost use Rattle.guppy_support.specs.Bits.{has, members};
-ghost use Rattle.guppy_support.specs.Rows.{places};
+ghost use Rattle.digraphs.specs.Graph.{IsDigraph, sources};
+ghost use Rattle.digraphs.specs.Bits.{has, members};
+ghost use Rattle.digraphs.specs.Rows.{places};
 ghost use Rattle.digraph_orders.specs.inner.Groups.{AreGroups};
 ghost use Rattle.digraph_orders.specs.Orders.{IsOrder};
 ghost use Rattle.digraph_orders.specs.inner.Heads.{IsDone};
@@ -11,7 +11,7 @@ ghost use Rattle.digraph_orders.specs.inner.Queues.{Joins};
 
 use crate::order::groups::Groups;
 use crate::order::queue::Queue;
-use guppy_support::{Digraph, Edge, IxBitSet};
+use digraphs::{Digraph, Edge, IxBitSet};
 use std::alloc::AllocError;
 
 /// The state between two nodes of the order.

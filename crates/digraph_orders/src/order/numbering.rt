@@ -3,7 +3,7 @@ ghost use Rattle.std.specs.Prelude.{◌≡◌, ◌≢◌, ℕ, ◌∷◌, [], �
 ghost use Rattle.digraph_orders.specs.inner.Apart.{AreApart};
 ghost use Rattle.digraph_orders.specs.inner.Numbering.{ArePlaces, AreAllNumbered};
 
-use guppy_support::zeroes;
+use digraphs::zeroes;
 use std::alloc::{AllocError, Global};
 
 /// Appends `place` to `begins` if the node there is in another component than the node before it: `rank` and `last`

@@ -1,9 +1,9 @@
 //! A queue of numbers from which the least is removed first.
 ghost use Rattle.std.specs.Prelude.{◌≡◌, ◌<◌, [], false, length, replicate, IfSome, IfNone, IfOk};
-ghost use Rattle.guppy_support.specs.Bits.{members};
+ghost use Rattle.digraphs.specs.Bits.{members};
 ghost use Rattle.digraph_orders.specs.inner.Queues.{Joins, Leaves};
 
-use guppy_support::IxBitSet;
+use digraphs::IxBitSet;
 use std::alloc::{AllocError, Global};
 use std::marker::Model;
 

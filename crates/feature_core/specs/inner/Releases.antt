@@ -1,7 +1,7 @@
 -- The edges that wait for a gate, in one list.
 use Rattle.std.specs.Prelude.{◌≡◌, ℕ, ◌<◌, ◌≤◌, ◌+◌, ◌==◌, ◌⊎◌, ◌↔◌, List, [], ◌∷◌, ◌++◌, Option, Some, None, map, filter, length, slice_get, slice_index_or, AllPairs, Contains}
 use Rattle.std.specs.Option.{option_map_or}
-use Rattle.guppy_support.specs.Graph.{Graph}
+use Rattle.digraphs.specs.Graph.{Graph}
 use Rattle.feature_edges.specs.guppy_packages.declared.direction.DependencyDirection.{DependencyDirection}
 use Rattle.feature_edges.specs.guppy_packages.declared.direction.DependencyDirection.TheVariants.{Forward, Reverse}
 use Rattle.feature_edges.specs.feature_links.Facts.{EdgeFacts}

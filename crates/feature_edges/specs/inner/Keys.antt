@@ -1,6 +1,6 @@
 -- Candidates as keys, and the least key of each pair.
 use Rattle.std.specs.Prelude.{◌≡◌, ℕ, ◌<◌, ◌≤◌, ◌⊎◌, List, Contains, AllPairs, All, true, Some, ◌++◌, slice_get}
-use Rattle.guppy_support.specs.declared.digraph.Edge.{Edge as End}
+use Rattle.digraphs.specs.declared.digraph.Edge.{Edge as End}
 use Rattle.feature_edges.specs.declared.candidate.CandidateKind.{CandidateKind}
 use Rattle.feature_edges.specs.declared.candidate.CandidateKind.TheVariants.{FeatureToBase, NamedFeature, DepColon, SlashFull, SlashOptional, SlashWeak, Section}
 use Rattle.feature_edges.specs.declared.candidate.Key.{Key}

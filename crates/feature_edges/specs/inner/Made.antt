@@ -1,7 +1,7 @@
 -- The edges of keys, as they are built.
 use Rattle.std.specs.Prelude.{◌≡◌, ℕ, ◌<◌, ◌≤◌, ◌↔◌, List, [], ◌∷◌, ◌++◌, Contains, AllPairs, Some, slice_get, length, map, not}
 use Rattle.std.specs.List.{zip}
-use Rattle.guppy_support.specs.declared.digraph.Edge.{Edge as End}
+use Rattle.digraphs.specs.declared.digraph.Edge.{Edge as End}
 use Rattle.guppy_packages.specs.Tables.{Tables}
 use Rattle.feature_edges.specs.Nodes.{first_node, node_packages}
 use Rattle.feature_edges.specs.Candidates.{Edge, Candidate}

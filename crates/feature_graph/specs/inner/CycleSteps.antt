@@ -1,7 +1,7 @@
 -- The cycles that an iterator hasn't returned yet.
 use Rattle.std.specs.Prelude.{◌≡◌, ◌<◌, ◌≤◌, ℕ, List, All, length, map}
 use Rattle.digraph_orders.specs.Sequences.{Sequence, IsSequence}
-use Rattle.order_views.specs.Cycles.{nodes_of}
+use Rattle.guppy_support.specs.Cycles.{nodes_of}
 use Rattle.guppy_packages.specs.Rows.{Text}
 use Rattle.guppy_packages.specs.Tables.{Tables}
 use Rattle.feature_core.specs.Nodes.{nodes}

@@ -1,7 +1,7 @@
 -- Steps and offers that have names in a graph.
 use Rattle.std.specs.Prelude.{◌≡◌, ℕ, Bool, List, IsTrue, All, length}
 use Rattle.std.specs.Option.{is_some}
-use Rattle.guppy_support.specs.Bits.{has}
+use Rattle.digraphs.specs.Bits.{has}
 use Rattle.guppy_packages.specs.declared.direction.DependencyDirection.{DependencyDirection}
 use Rattle.feature_core.specs.Nodes.{nodes}
 use Rattle.feature_core.specs.Offers.{content_of}

@@ -1,6 +1,6 @@
 -- The labels of one package's members, collected node by node.
 use Rattle.std.specs.Prelude.{◌↔◌, ◌<◌, ◌⊎◌, ℕ, List, Bool, IsTrue, Contains}
-use Rattle.guppy_support.specs.Bits.{has}
+use Rattle.digraphs.specs.Bits.{has}
 use Rattle.guppy_packages.specs.Tables.{Tables}
 use Rattle.feature_core.specs.Nodes.{NodeAt}
 use Rattle.feature_labels.specs.Names.{LabelName}

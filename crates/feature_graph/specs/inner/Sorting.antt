@@ -1,7 +1,7 @@
 -- The state between two calls of a callback, and the two sets that its results fill.
 use Rattle.std.specs.Prelude.{◌≡◌, ◌↔◌, ◌++◌, ◌⊎◌, ℕ, Bool, List, IsTrue, Contains, map, length}
 use Rattle.std.specs.List.{FoldsTo}
-use Rattle.guppy_support.specs.Bits.{has}
+use Rattle.digraphs.specs.Bits.{has}
 use Rattle.guppy_packages.specs.Tables.{Tables}
 use Rattle.feature_core.specs.Nodes.{nodes}
 use Rattle.feature_graph.specs.Parts.{CallsAt}

@@ -1,6 +1,6 @@
 //! Tests whether one feature depends on another.
 ghost use Rattle.std.specs.Prelude.{◌≡◌, ◌<◌, ◌∷◌, [], IfOk, IfErr, length};
-ghost use Rattle.guppy_support.specs.Paths.{HasEdge, Path};
+ghost use Rattle.digraphs.specs.Paths.{HasEdge, Path};
 ghost use Rattle.feature_labels.specs.Names.{id_of};
 ghost use Rattle.feature_core.specs.Errors.{refusal_of};
 ghost use Rattle.feature_core.specs.Nodes.{nodes};
@@ -13,7 +13,7 @@ use crate::cycles::Cycles;
 use crate::graph::FeatureGraph;
 use feature_core::Error;
 use feature_labels::FeatureId;
-use order_views::depends_on;
+use guppy_support::depends_on;
 use std::alloc::Global;
 
 impl<'g> FeatureGraph<'g> {

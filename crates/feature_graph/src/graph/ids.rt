@@ -1,6 +1,6 @@
 //! Lists of ids.
 ghost use Rattle.std.specs.Prelude.{◌≡◌, ◌↔◌, ◌⊎◌, ℕ, IsTrue, IfOk, MatchOption, length, map};
-ghost use Rattle.guppy_support.specs.Bits.{has};
+ghost use Rattle.digraphs.specs.Bits.{has};
 ghost use Rattle.feature_labels.specs.Names.{id_of};
 ghost use Rattle.feature_core.specs.Built.{NodeNamed};
 ghost use Rattle.feature_core.specs.Nodes.{nodes};
@@ -9,7 +9,7 @@ ghost use Rattle.feature_graph.specs.Views.{tables_of_graph};
 
 use crate::graph::FeatureGraph;
 use feature_labels::FeatureId;
-use guppy_support::IxBitSet;
+use digraphs::IxBitSet;
 use std::alloc::{AllocError, Global};
 
 /// Returns the first of `ids` that the graph lacks.

@@ -12,7 +12,7 @@ use crate::query::filter::FeatureFilter;
 use crate::set::FeatureSet;
 use feature_core::Error;
 use guppy_packages::DependencyDirection;
-use guppy_support::IxBitSet;
+use digraphs::IxBitSet;
 use std::alloc::Global;
 
 impl<'g> FeatureGraph<'g> {

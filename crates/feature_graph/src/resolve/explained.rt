@@ -1,6 +1,6 @@
 //! Resolves a query with a visitor, and explains the result.
 ghost use Rattle.std.specs.Prelude.{◌≡◌, IfOk, IfErr, OnErr, length};
-ghost use Rattle.guppy_support.specs.Bits.{has};
+ghost use Rattle.digraphs.specs.Bits.{has};
 ghost use Rattle.feature_core.specs.Nodes.{nodes};
 ghost use Rattle.walk_engine.specs.Explanations.{IsExplainedWalk};
 ghost use Rattle.walk_engine.specs.Walks.{LegalRun, MayAsk};
@@ -18,7 +18,7 @@ use crate::set::FeatureSet;
 use feature_core::graph_laws::{content_of_graph, offers_are_links};
 use feature_core::{Error, Packed};
 use guppy_packages::DependencyDirection;
-use guppy_support::IxBitSet;
+use digraphs::IxBitSet;
 use std::alloc::{AllocError, Global};
 use walk_engine::{Half, Step, walk_explained};
 

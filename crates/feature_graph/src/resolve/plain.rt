@@ -1,6 +1,6 @@
 //! Sets without a visitor: of all features, of none, of listed ones, and of those reachable over all edges.
 ghost use Rattle.std.specs.Prelude.{◌≡◌, ◌↔◌, ℕ, IsTrue, IfOk, IfErr, true, false, length, map, replicate};
-ghost use Rattle.guppy_support.specs.Bits.{has};
+ghost use Rattle.digraphs.specs.Bits.{has};
 ghost use Rattle.feature_labels.specs.Names.{id_of};
 ghost use Rattle.feature_core.specs.Errors.{refusal_of};
 ghost use Rattle.feature_core.specs.Nodes.{nodes};
@@ -14,7 +14,7 @@ use crate::set::FeatureSet;
 use feature_core::{EdgeChoice, Error, walk_all};
 use feature_labels::FeatureId;
 use guppy_packages::DependencyDirection;
-use guppy_support::IxBitSet;
+use digraphs::IxBitSet;
 use std::alloc::Global;
 
 impl<'g> FeatureGraph<'g> {

@@ -1,6 +1,6 @@
 //! Resolves a query with a visitor, which decides whether a conditional link is followed.
 ghost use Rattle.std.specs.Prelude.{◌≡◌, IsTrue, IfOk, IfErr, OnErr, length};
-ghost use Rattle.guppy_support.specs.Bits.{has};
+ghost use Rattle.digraphs.specs.Bits.{has};
 ghost use Rattle.feature_core.specs.Nodes.{nodes};
 ghost use Rattle.walk_engine.specs.Walks.{IsWalk, LegalRun, MayAsk};
 ghost use Rattle.feature_graph.specs.ByClosure.{closure_can, closure_gives};
@@ -14,7 +14,7 @@ use crate::query::visitor::{FeatureLinkVisitor, LinkVisitorFn};
 use crate::set::FeatureSet;
 use feature_core::graph_laws::offers_are_links;
 use feature_core::{Error, Packed};
-use guppy_support::IxBitSet;
+use digraphs::IxBitSet;
 use std::alloc::{AllocError, Global};
 use walk_engine::{Half, Offerer, walk_over};
 

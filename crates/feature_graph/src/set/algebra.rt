@@ -1,7 +1,7 @@
 //! Operations on sets: equality, and combinations of two sets.
 ghost use Rattle.std.specs.Prelude.{◌≡◌, ◌↔◌, ◌&&◌, ◌||◌, IsTrue, IfOk, IfErr};
 ghost use Rattle.std.specs.Cmp.{partial_equiv_from_equiv};
-ghost use Rattle.guppy_support.specs.Bits.{one_alone};
+ghost use Rattle.digraphs.specs.Bits.{one_alone};
 ghost use Rattle.feature_graph.specs.SetValues.{SameGraph, AreEqualSets, IsCombined, first_alone, set_eq, set_eq_equiv};
 
 use crate::query::FeatureQuery;

@@ -13,8 +13,8 @@ use crate::link::feature_at;
 use crate::set::FeatureSet;
 use feature_labels::FeatureId;
 use guppy_packages::DependencyDirection;
-use order_views::laws::views_stay_within;
-use order_views::{InOrder, Reading};
+use guppy_support::laws::views_stay_within;
+use guppy_support::{InOrder, Reading};
 use std::iter::FusedIterator;
 use std::marker::Model;
 

@@ -6,7 +6,7 @@ use crate::set::FeatureSet;
 use crate::set::parts::put;
 use feature_core::Error;
 use guppy_packages::PackageSet;
-use guppy_support::IxBitSet;
+use digraphs::IxBitSet;
 use std::alloc::{AllocError, Global};
 
 impl<'g> FeatureSet<'g> {

@@ -11,8 +11,8 @@ use crate::link::feature_at;
 use crate::set::FeatureSet;
 use feature_core::Error;
 use guppy_packages::DependencyDirection;
-use guppy_support::IxBitSet;
-use order_views::InOrder;
+use digraphs::IxBitSet;
+use guppy_support::InOrder;
 use std::alloc::Global;
 
 /// The result of a callback, which chooses the part that a feature goes to.

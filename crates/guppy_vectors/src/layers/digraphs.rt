@@ -1,7 +1,6 @@
 //! Calls on digraphs and their orders.
 use crate::shared::{Failure, Out, all_of, cut, number};
-use digraph_orders::Order;
-use guppy_support::{Digraph, DigraphError, Edge};
+use guppy_support::{Digraph, DigraphError, Edge, Order};
 use std::alloc::Global;
 
 /// Writes `edge` as a word: `>` marks an ordinary edge, and `~` a dev-only one.

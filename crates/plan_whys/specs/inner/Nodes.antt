@@ -2,7 +2,7 @@
 use Rattle.std.specs.Prelude.{◌≡◌, ◌↔◌, ℕ, ◌<◌, Bool, List, Option, Some, None, ⊤, IsTrue, IsFalse, All}
 use Rattle.std.specs.Global.{Vec}
 use Rattle.guppy_packages.specs.declared.direction.DependencyDirection.TheVariants.{Forward}
-use Rattle.guppy_support.specs.Bits.{has}
+use Rattle.digraphs.specs.Bits.{has}
 use Rattle.feature_core.specs.Built.{Built, IsBuilt}
 use Rattle.feature_core.specs.Offers.{content_of}
 use Rattle.walk_engine.specs.Laws.{every}

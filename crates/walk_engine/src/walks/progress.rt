@@ -1,14 +1,14 @@
 //! The state of a walk: its findings, and the conditions of edges that are met so far.
 
 ghost use Rattle.std.specs.Prelude.{Some, None, ◌≡◌, ◌+◌, ◌^◌, ◌<◌, ◌≤◌, ℕ, suc, Bool, false, List, IsTrue, IsFalse, IfOk, OnOk, OnErr, length, slice_get};
-ghost use Rattle.guppy_support.specs.Bits.{has};
+ghost use Rattle.digraphs.specs.Bits.{has};
 ghost use Rattle.walk_engine.specs.Walks.{Content, EndsAreNodes, IsWalk, LegalRun, MayAsk, ReadsAreBounded};
 ghost use Rattle.walk_engine.specs.Explanations.{IsExplainedWalk};
 ghost use Rattle.walk_engine.specs.inner.WalkProgress.{IsListed, HasRoom, Asks, Comes, findings, noted, edges_by, FollowsEdge, Extends, FollowsAll, FollowsStopped, Begun, IsDone, reads_of};
 ghost use Rattle.walk_engine.specs.declared.walks.progress.Condition.TheVariants.{Start, Gate};
 
 use super::{Ask, EdgeSource, Half, Offerer, Step, StepReason};
-use guppy_support::IxBitSet;
+use digraphs::IxBitSet;
 use std::alloc::{AllocError, Global};
 
 /// The condition of an edge that a node meets: the edge starts there, or the node is its gate.

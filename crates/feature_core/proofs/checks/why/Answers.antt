@@ -1,6 +1,6 @@
 use Rattle.std.proofs.Common.{◌≡◌, length, subst}
 use Rattle.std.specs.Prelude.{IsFalse, MatchOption}
-use Rattle.guppy_support.specs.Bits.{has}
+use Rattle.digraphs.specs.Bits.{has}
 use Rattle.walk_engine.specs.Explanations.{IsExplanation, nodes_of}
 use Rattle.walk_engine.specs.Walks.{is_in}
 use Rattle.walk_checks.specs.Whys.{IsWhy}

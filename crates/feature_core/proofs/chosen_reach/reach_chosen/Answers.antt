@@ -1,7 +1,7 @@
 use Rattle.std.proofs.Common.{sym, subst}
-use Rattle.guppy_support.specs.Bits.{has}
-use Rattle.order_views.specs.declared.reading.Reading.{Reading}
-use Rattle.order_views.specs.Reaches.{FollowedStep, ReachAlong}
+use Rattle.digraphs.specs.Bits.{has}
+use Rattle.guppy_support.specs.declared.reading.Reading.{Reading}
+use Rattle.guppy_support.specs.Reaches.{FollowedStep, ReachAlong}
 use Rattle.feature_core.specs.inner.ChosenEdges.{is_chosen_at}
 use Rattle.feature_core.proofs.ChosenEdgeLemmas.{reach_chosen_pairs}
 use Rattle.feature_core.proofs.chosen_reach.reach_chosen.Goals as goal

@@ -1,7 +1,7 @@
 use Rattle.std.proofs.Common.{◌∙◌, ◌<◌, ◌≤◌, ◌+◌, ◌↔◌, Bool, List, true, false, arith, length, refl, sym, ap, subst}
 use Rattle.std.specs.Prelude.{IsTrue}
 use Rattle.std.proofs.lemmas.List.{length-replicate, length-set}
-use Rattle.guppy_support.specs.Bits.{has}
+use Rattle.digraphs.specs.Bits.{has}
 use Rattle.feature_edges.specs.Nodes.{node_packages}
 use Rattle.feature_core.proofs.DefaultLemmas.{Starts, start_below, none_start, next_start, all_starts}
 use Rattle.feature_core.proofs.defaults.default_features.Goals as goal

@@ -1,5 +1,5 @@
 use Rattle.std.proofs.Common.{◌≡◌, ◌↔◌, ℕ, IsTrue, length}
-use Rattle.guppy_support.specs.Bits.{has}
+use Rattle.digraphs.specs.Bits.{has}
 use Rattle.feature_core.proofs.DefaultLemmas.{Starts}
 use Rattle.feature_core.proofs.defaults.default_features.Given as goal
 

@@ -1,5 +1,5 @@
 use Rattle.std.specs.Prelude.{IsTrue}
-use Rattle.guppy_support.specs.Bits.{has}
+use Rattle.digraphs.specs.Bits.{has}
 use Rattle.feature_core.proofs.ChoiceLemmas.{chosen_alike, all_alike}
 use Rattle.feature_core.proofs.walks.walk_all.Goals as goal
 

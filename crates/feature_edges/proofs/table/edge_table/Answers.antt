@@ -1,5 +1,5 @@
 use Rattle.std.proofs.Common.{rules, ◌≡◌, ◌∙◌, ap, sym, subst, length, refl}
-use Rattle.guppy_support.specs.Graph.{IsDigraph}
+use Rattle.digraphs.specs.Graph.{IsDigraph}
 use Rattle.feature_edges.specs.Nodes.{node_packages}
 use Rattle.feature_edges.proofs.SoundEnds.{pairs_sound}
 use Rattle.feature_edges.proofs.BuildLemmas.{all_long, all_ends, all_pairs, all_built}

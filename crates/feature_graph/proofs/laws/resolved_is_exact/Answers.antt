@@ -1,4 +1,4 @@
-use Rattle.guppy_support.specs.Bits.{has}
+use Rattle.digraphs.specs.Bits.{has}
 use Rattle.feature_graph.specs.Visits.{query_content, shown}
 use Rattle.feature_graph.proofs.Explanations.{explained_run, explained_by_answer}
 use Rattle.feature_graph.proofs.laws.resolved_is_exact.Goals as goal

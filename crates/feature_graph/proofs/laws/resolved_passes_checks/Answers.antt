@@ -1,6 +1,6 @@
 use Rattle.std.proofs.Common.{◌≡◌, ℕ, sym, subst}
 use Rattle.guppy_packages.specs.declared.direction.DependencyDirection.TheVariants.{Forward}
-use Rattle.guppy_support.specs.Bits.{has}
+use Rattle.digraphs.specs.Bits.{has}
 use Rattle.feature_core.specs.Built.{NodeNamed}
 use Rattle.feature_core.specs.Offers.{content_of, HaveOneName, IsOffer}
 use Rattle.walk_engine.specs.declared.walks.Half.{Half}

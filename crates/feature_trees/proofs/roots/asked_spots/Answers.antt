@@ -1,6 +1,6 @@
 use Rattle.std.proofs.Common.{◌∙◌, ◌<◌, map, subst}
 use Rattle.std.proofs.lemmas.List.{length-map}
-use Rattle.guppy_support.specs.Bits.{has}
+use Rattle.digraphs.specs.Bits.{has}
 use Rattle.plan_whys.specs.StepViews.{spot_text}
 use Rattle.feature_trees.specs.Roots.{is_asked}
 use Rattle.feature_trees.proofs.RootLemmas.{same_numbers}

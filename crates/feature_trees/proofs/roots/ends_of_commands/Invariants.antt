@@ -1,5 +1,5 @@
 use Rattle.std.proofs.Common.{◌≡◌, ℕ, ◌<◌, length, map, take}
-use Rattle.guppy_support.specs.Bits.{has}
+use Rattle.digraphs.specs.Bits.{has}
 use Rattle.plan_whys.specs.StepViews.{spot_text}
 use Rattle.feature_trees.specs.Roots.{is_asked}
 use Rattle.feature_trees.proofs.roots.ends_of_commands.Given as goal

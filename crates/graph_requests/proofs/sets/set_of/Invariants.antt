@@ -1,6 +1,6 @@
 use Rattle.std.proofs.Common.{◌≡◌, ℕ, length, drop, IsTrue}
 use Rattle.std.specs.Prelude.{◌||◌}
-use Rattle.guppy_support.specs.Bits.{has}
+use Rattle.digraphs.specs.Bits.{has}
 use Rattle.walk_engine.specs.Walks.{is_in}
 use Rattle.graph_requests.specs.Requests.{are_below}
 use Rattle.graph_requests.proofs.sets.set_of.Given as goal

@@ -1,5 +1,5 @@
 use Rattle.std.proofs.Common.{◌≡◌, ◌++◌}
-use Rattle.order_views.specs.Views.{links_in_order}
+use Rattle.guppy_support.specs.Views.{links_in_order}
 use Rattle.graph_requests.proofs.views.links_between.Given as goal
 
 -- The edges so far and those to come are all edges in order.

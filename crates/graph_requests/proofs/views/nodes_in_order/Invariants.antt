@@ -1,5 +1,5 @@
 use Rattle.std.proofs.Common.{◌≡◌, ◌++◌}
-use Rattle.order_views.specs.Views.{in_order}
+use Rattle.guppy_support.specs.Views.{in_order}
 use Rattle.graph_requests.proofs.views.nodes_in_order.Given as goal
 
 -- The nodes so far and those to come are all members in order.

@@ -1,5 +1,5 @@
 use Rattle.std.proofs.Common.{ap, subst}
-use Rattle.guppy_support.specs.Bits.{has}
+use Rattle.digraphs.specs.Bits.{has}
 use Rattle.walk_engine.specs.Explanations.{IsExplainedWalk}
 use Rattle.graph_requests.specs.Choices.{choice_of}
 use Rattle.graph_requests.proofs.ChoiceWalks.{Answered, walk_by}

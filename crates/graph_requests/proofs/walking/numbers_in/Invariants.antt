@@ -1,5 +1,5 @@
 use Rattle.std.proofs.Common.{◌≡◌, ◌++◌}
-use Rattle.guppy_support.specs.Bits.{members}
+use Rattle.digraphs.specs.Bits.{members}
 use Rattle.graph_requests.proofs.walking.numbers_in.Given as goal
 
 -- The numbers so far and those to come are all members.

@@ -1,7 +1,7 @@
 use Rattle.std.proofs.Common.{◌∙◌, ap, refl, subst}
 use Rattle.std.proofs.lemmas.Result.{IfOk-weaker}
 use Rattle.binary_records.specs.Records.{list, number}
-use Rattle.guppy_support.specs.Bits.{members}
+use Rattle.digraphs.specs.Bits.{members}
 use Rattle.graph_requests.specs.Answers.{answer_with}
 use Rattle.graph_requests.specs.Contents.{IsSetOf}
 use Rattle.graph_requests.proofs.walking.reached.Goals as goal

@@ -1,6 +1,6 @@
 use Rattle.std.proofs.Common.{◌≡◌, ◌∙◌, ap, subst, map, ℕ, List}
 use Rattle.std.specs.Prelude.{◌↔◌, IsTrue}
-use Rattle.guppy_support.specs.Bits.{has}
+use Rattle.digraphs.specs.Bits.{has}
 use Rattle.walk_engine.specs.Walks.{Agrees, Least}
 use Rattle.walk_engine.specs.Laws.{every}
 use Rattle.guppy_packages.specs.Rows.{Text}

@@ -1,5 +1,5 @@
 use Rattle.std.proofs.Common.{◌≡◌, ◌++◌}
-use Rattle.guppy_support.specs.Bits.{members}
+use Rattle.digraphs.specs.Bits.{members}
 use Rattle.plan_links.proofs.numbers.members_of.Given as goal
 
 abbrev pub invariant-loop-number : goal.invariant-loop-number

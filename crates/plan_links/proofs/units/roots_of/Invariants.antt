@@ -1,5 +1,5 @@
 use Rattle.std.proofs.Common.{◌≡◌, ◌++◌, ◌∷◌, [], ℕ, drop, if◌then◌else◌, map}
-use Rattle.guppy_support.specs.Bits.{has}
+use Rattle.digraphs.specs.Bits.{has}
 use Rattle.plan_steps.specs.plan_starts.Lists.{joined_from}
 use Rattle.plan_steps.specs.plan_units.Units.{UnitText}
 use Rattle.plan_steps.specs.plan_units.UnitViews.{unit_text}

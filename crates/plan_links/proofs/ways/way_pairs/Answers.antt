@@ -1,5 +1,5 @@
 use Rattle.std.proofs.Common.{arith}
-use Rattle.guppy_support.specs.Bits.{has}
+use Rattle.digraphs.specs.Bits.{has}
 use Rattle.plan_links.specs.inner.Pairs.{counted_ends}
 use Rattle.plan_links.proofs.WayLemmas.{way_step}
 use Rattle.plan_links.proofs.ways.way_pairs.Goals as goal

@@ -1,5 +1,5 @@
 use Rattle.std.proofs.Common.{◌≡◌, ℕ, length, take}
-use Rattle.guppy_support.specs.Bits.{has}
+use Rattle.digraphs.specs.Bits.{has}
 use Rattle.plan_starts.specs.Starts.{is_among}
 use Rattle.plan_starts.proofs.marks.marks_of.Given as goal
 

@@ -1,5 +1,5 @@
 use Rattle.std.proofs.Common.{◌≡◌, ◌&&◌, ℕ, ◌++◌, map, drop}
-use Rattle.guppy_support.specs.Bits.{has}
+use Rattle.digraphs.specs.Bits.{has}
 use Rattle.cargo_workspaces.specs.Views.{package_text}
 use Rattle.cargo_workspaces.specs.Workspaces.{PackageText}
 use Rattle.plan_rows.specs.Tables.{each_from}

@@ -1,5 +1,5 @@
 use Rattle.std.proofs.Common.{◌∙◌, arith}
-use Rattle.guppy_support.specs.Bits.{has}
+use Rattle.digraphs.specs.Bits.{has}
 use Rattle.plan_whys.specs.Reasons.{reasons_by}
 use Rattle.plan_whys.proofs.ReasonLists.{way_step}
 use Rattle.plan_whys.proofs.direct_reasons.all_reasons.Goals as goal

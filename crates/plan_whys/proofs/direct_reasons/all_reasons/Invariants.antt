@@ -1,5 +1,5 @@
 use Rattle.std.proofs.Common.{◌≡◌, ◌++◌, drop}
-use Rattle.guppy_support.specs.Bits.{has}
+use Rattle.digraphs.specs.Bits.{has}
 use Rattle.cargo_plans.specs.plan_starts.Lists.{joined_from}
 use Rattle.plan_whys.specs.Reasons.{all_reasons, reasons_by}
 use Rattle.plan_whys.proofs.direct_reasons.all_reasons.Given as goal

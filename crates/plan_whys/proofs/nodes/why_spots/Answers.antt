@@ -1,5 +1,5 @@
 use Rattle.std.proofs.Common.{arith}
-use Rattle.guppy_support.specs.Bits.{has}
+use Rattle.digraphs.specs.Bits.{has}
 use Rattle.plan_whys.specs.inner.Nodes.{SpotAnswers}
 use Rattle.plan_whys.proofs.StepLists.{zip_next}
 use Rattle.plan_whys.proofs.nodes.why_spots.Goals as goal

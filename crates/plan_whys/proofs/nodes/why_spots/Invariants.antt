@@ -1,6 +1,6 @@
 use Rattle.std.proofs.Common.{take}
 use Rattle.std.specs.List.{AllZip}
-use Rattle.guppy_support.specs.Bits.{has}
+use Rattle.digraphs.specs.Bits.{has}
 use Rattle.plan_whys.specs.inner.Nodes.{SpotAnswers}
 use Rattle.plan_whys.proofs.nodes.why_spots.Given as goal
 

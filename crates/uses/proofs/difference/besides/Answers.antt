@@ -1,5 +1,5 @@
 use Rattle.std.proofs.lemmas.Result.{IfOk-weaker}
-use Rattle.guppy_features.specs.guppy_support.Bits.{has}
+use Rattle.guppy_features.specs.digraphs.Bits.{has}
 use Rattle.uses.proofs.Named.{without}
 use Rattle.uses.proofs.difference.besides.Goals as goal
 

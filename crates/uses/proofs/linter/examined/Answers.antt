@@ -1,6 +1,6 @@
 use Rattle.std.proofs.Common.{subst}
 use Rattle.std.specs.Prelude.{IsFalse, MatchOption, map}
-use Rattle.guppy_features.specs.guppy_support.Bits.{has}
+use Rattle.guppy_features.specs.digraphs.Bits.{has}
 use Rattle.guppy_features.specs.feature_graph.Explained.{ExplainsMember}
 use Rattle.guppy_features.specs.feature_graph.Told.{step_name}
 use Rattle.uses.proofs.linter.examined.Goals as goal

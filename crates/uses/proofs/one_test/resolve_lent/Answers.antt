@@ -1,7 +1,7 @@
 use Rattle.std.proofs.Common.{◌≡◌, ◌+◌, ◌-◌, ◌^◌, Bool}
 use Rattle.std.specs.Prelude.{min}
 use Rattle.std.proofs.lemmas.Result.{IfOk-weaker}
-use Rattle.guppy_features.specs.guppy_support.Bits.{has}
+use Rattle.guppy_features.specs.digraphs.Bits.{has}
 use Rattle.guppy_features.specs.feature_graph.Lent.{lent_visit}
 use Rattle.guppy_features.specs.feature_graph.LinkValues.{Link}
 use Rattle.guppy_features.specs.feature_graph.Values.{Query}

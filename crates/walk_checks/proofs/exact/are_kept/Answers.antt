@@ -1,5 +1,5 @@
 use Rattle.std.proofs.Common.{refl, sym, arith}
-use Rattle.guppy_support.specs.Bits.{has}
+use Rattle.digraphs.specs.Bits.{has}
 use Rattle.walk_checks.specs.inner.Tests.{unmarked}
 use Rattle.walk_checks.proofs.Bools.{clash}
 use Rattle.walk_checks.proofs.Exactness.{kept_until, kept_whole, kept_more, starts_at}

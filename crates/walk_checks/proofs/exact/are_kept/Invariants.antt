@@ -1,6 +1,6 @@
 use Rattle.std.proofs.Common.{◌≡◌, ◌<◌, ℕ, Some}
 use Rattle.std.specs.Prelude.{slice_get}
-use Rattle.guppy_support.specs.Bits.{has}
+use Rattle.digraphs.specs.Bits.{has}
 use Rattle.walk_engine.specs.Walks.{Way, IsWay, starting}
 use Rattle.walk_checks.specs.inner.Tests.{unmarked, Keeps}
 use Rattle.walk_checks.proofs.exact.are_kept.Given as goal

@@ -1,6 +1,6 @@
 use Rattle.std.proofs.Common.{ℕ, ◌⊎◌}
 use Rattle.std.specs.Prelude.{IsTrue}
-use Rattle.guppy_support.specs.Bits.{has}
+use Rattle.digraphs.specs.Bits.{has}
 use Rattle.walk_engine.specs.Walks.{is_in}
 use Rattle.walk_checks.proofs.exact.are_listed.Given as goal
 

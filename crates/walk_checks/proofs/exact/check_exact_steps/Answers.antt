@@ -1,5 +1,5 @@
 use Rattle.std.proofs.Common.{◌∙◌, sym, arith}
-use Rattle.guppy_support.specs.Bits.{has}
+use Rattle.digraphs.specs.Bits.{has}
 use Rattle.walk_checks.proofs.Bools.{clash}
 use Rattle.walk_checks.proofs.Exactness.{exact_by, exact_explained, exact_spared, exact_initial, exact_closed, MarksAre}
 use Rattle.walk_checks.proofs.exact.check_exact_steps.Goals as goal

@@ -1,6 +1,6 @@
 use Rattle.std.proofs.Common.{ℕ, take}
 use Rattle.std.specs.Prelude.{IsTrue}
-use Rattle.guppy_support.specs.Bits.{has}
+use Rattle.digraphs.specs.Bits.{has}
 use Rattle.walk_engine.specs.Walks.{Way, IsWay, is_in}
 use Rattle.walk_engine.specs.Explanations.{nodes_of}
 use Rattle.walk_checks.specs.inner.Tests.{unmarked, Keeps}

@@ -1,5 +1,5 @@
 use Rattle.std.proofs.Common.{◌≡◌, ℕ, length, take}
-use Rattle.guppy_support.specs.Bits.{has}
+use Rattle.digraphs.specs.Bits.{has}
 use Rattle.walk_engine.specs.Walks.{is_in}
 use Rattle.walk_engine.specs.Explanations.{IsExplanation, nodes_of}
 use Rattle.walk_engine.specs.Laws.{every}

@@ -1,6 +1,6 @@
 use Rattle.std.proofs.Common.{◌<◌, ◌∙◌, sym, arith}
 use Rattle.std.proofs.lemmas.Bool.{not-false}
-use Rattle.guppy_support.specs.Bits.{has}
+use Rattle.digraphs.specs.Bits.{has}
 use Rattle.walk_engine.specs.Laws.{every}
 use Rattle.walk_checks.proofs.Bools.{clash}
 use Rattle.walk_checks.proofs.Numbers.{has_within}

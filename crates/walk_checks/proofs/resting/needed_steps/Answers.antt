@@ -1,6 +1,6 @@
 use Rattle.std.proofs.Common.{◌≡◌, ◌<◌, ◌+◌, ◌-◌, ◌∙◌, ◌++◌, ◌∷◌, [], ℕ, Bool, List, length, refl, sym, ap, subst, arith}
 use Rattle.std.specs.Prelude.{slice_index_or}
-use Rattle.guppy_support.specs.Bits.{has}
+use Rattle.digraphs.specs.Bits.{has}
 use Rattle.walk_engine.specs.declared.walks.Step.{Step}
 use Rattle.walk_engine.specs.declared.walks.StepReason.TheVariants.{Initial}
 use Rattle.walk_checks.specs.inner.Backwards.{IsBack}

@@ -1,6 +1,6 @@
 use Rattle.std.proofs.Common.{◌≡◌, ◌-◌, ℕ, length}
 use Rattle.std.specs.Prelude.{IsTrue, ◌↔◌}
-use Rattle.guppy_support.specs.Bits.{has}
+use Rattle.digraphs.specs.Bits.{has}
 use Rattle.walk_checks.specs.inner.Backwards.{IsBack}
 use Rattle.walk_checks.proofs.resting.needed_steps.Given as goal
 

@@ -1,5 +1,5 @@
 use Rattle.std.proofs.Common.{◌≡◌, ℕ, ◌<◌, ◌≤◌, true, length, slice_index}
-use Rattle.guppy_support.specs.Bits.{has}
+use Rattle.digraphs.specs.Bits.{has}
 use Rattle.digraph_orders.specs.inner.ComponentWalk.{AreGiven, IsInOrFrom}
 use Rattle.digraph_orders.proofs.components.walk.give.Given as goal
 

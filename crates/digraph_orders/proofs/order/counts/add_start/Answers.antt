@@ -1,4 +1,4 @@
-use Rattle.guppy_support.specs.Bits.{members}
+use Rattle.digraphs.specs.Bits.{members}
 use Rattle.digraph_orders.proofs.FirstLemmas.{firsts_more}
 use Rattle.digraph_orders.proofs.order.counts.add_start.Goals as goal
 

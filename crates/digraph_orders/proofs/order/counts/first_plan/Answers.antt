@@ -1,4 +1,4 @@
-use Rattle.guppy_support.specs.Bits.{members}
+use Rattle.digraphs.specs.Bits.{members}
 use Rattle.digraph_orders.proofs.FirstLemmas.{first_pause}
 use Rattle.digraph_orders.proofs.QueueLemmas.{members_empty}
 use Rattle.digraph_orders.proofs.order.counts.first_plan.Goals as goal

@@ -1,7 +1,7 @@
 use Rattle.std.proofs.Common.{◌≡◌, ◌∙◌, ◌<◌, false, [], length, ap, arith, Contains}
 use Rattle.std.proofs.lemmas.List.{length-replicate}
-use Rattle.guppy_support.specs.Bits.{members}
-use Rattle.guppy_support.specs.Rows.{places}
+use Rattle.digraphs.specs.Bits.{members}
+use Rattle.digraphs.specs.Rows.{places}
 use Rattle.digraph_orders.proofs.PlaceLemmas.{places_within}
 use Rattle.digraph_orders.proofs.QueueLemmas.{members_empty}
 use Rattle.digraph_orders.proofs.order.counts.first_starts.Goals as goal

@@ -1,5 +1,5 @@
 use Rattle.std.proofs.Common.{◌≡◌, length}
-use Rattle.guppy_support.specs.Bits.{members}
+use Rattle.digraphs.specs.Bits.{members}
 use Rattle.digraph_orders.specs.inner.Plans.{AreFirsts}
 use Rattle.digraph_orders.proofs.order.counts.first_starts.Given as goal
 

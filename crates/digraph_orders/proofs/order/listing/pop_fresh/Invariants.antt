@@ -1,5 +1,5 @@
 use Rattle.std.proofs.Common.{◌≡◌, ℕ, length, Contains}
-use Rattle.guppy_support.specs.Bits.{members}
+use Rattle.digraphs.specs.Bits.{members}
 use Rattle.digraph_orders.specs.inner.Heads.{IsDone}
 use Rattle.digraph_orders.proofs.order.listing.pop_fresh.Given as goal
 

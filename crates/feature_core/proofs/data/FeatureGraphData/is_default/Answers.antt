@@ -1,6 +1,6 @@
 use Rattle.std.proofs.Common.{◌≡◌, ◌∙◌, ◌↔◌, arith, length, ap, sym, subst}
 use Rattle.std.specs.Prelude.{IsTrue}
-use Rattle.guppy_support.specs.Bits.{has}
+use Rattle.digraphs.specs.Bits.{has}
 use Rattle.feature_core.specs.Defaults.{IsDefault}
 use Rattle.feature_core.proofs.data.FeatureGraphData.is_default.Goals as goal
 

@@ -1,6 +1,6 @@
 use Rattle.std.proofs.Common.{◌≡◌, ap, subst}
 use Rattle.std.specs.Prelude.{◌↔◌, IsTrue}
-use Rattle.guppy_support.specs.Bits.{has}
+use Rattle.digraphs.specs.Bits.{has}
 use Rattle.feature_core.specs.Built.{built_edges}
 use Rattle.feature_edges.specs.Choices.{chosen_pairs}
 use Rattle.feature_edges.specs.Pairs.{PairLeads, ReachAlong}

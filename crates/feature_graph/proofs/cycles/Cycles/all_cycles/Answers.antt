@@ -1,7 +1,7 @@
 use Rattle.std.proofs.Common.{◌<◌, arith}
 use Rattle.std.proofs.lemmas.List.Elements.{All-same}
 use Rattle.feature_core.specs.Built.{digraph_of}
-use Rattle.order_views.specs.Cycles.{cyclic_components}
+use Rattle.guppy_support.specs.Cycles.{cyclic_components}
 use Rattle.feature_graph.specs.Views.{tables_of_graph, built_of}
 use Rattle.feature_graph.proofs.OrderedLemmas.{order_long}
 use Rattle.feature_graph.proofs.cycles.Cycles.all_cycles.Goals as goal

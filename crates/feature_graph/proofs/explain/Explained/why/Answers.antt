@@ -1,7 +1,7 @@
 use Rattle.std.proofs.Common.{◌≡◌, ◌∙◌, ap, map, sym, subst}
 use Rattle.std.specs.Prelude.{All, IsTrue, IsFalse, MatchOption}
 use Rattle.std.specs.Option.{is_some}
-use Rattle.guppy_support.specs.Bits.{has}
+use Rattle.digraphs.specs.Bits.{has}
 use Rattle.feature_labels.specs.Names.{id_of}
 use Rattle.feature_graph.specs.Explained.{AreTold, IsBacked, ListMembers}
 use Rattle.feature_graph.specs.Told.{Explanation, step_name, step_told}

@@ -1,5 +1,5 @@
-use Rattle.guppy_support.specs.Graph.{IsEdgeAt}
-use Rattle.guppy_support.specs.Paths.{HasEdge}
+use Rattle.digraphs.specs.Graph.{IsEdgeAt}
+use Rattle.digraphs.specs.Paths.{HasEdge}
 use Rattle.feature_labels.specs.Names.{id_of}
 use Rattle.feature_graph.specs.Views.{graph_of}
 use Rattle.std.proofs.Common.{refl, subst}

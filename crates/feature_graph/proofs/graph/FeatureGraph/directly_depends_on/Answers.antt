@@ -1,7 +1,7 @@
 use Rattle.std.proofs.Common.{subst}
 use Rattle.std.specs.Prelude.{IfNone, IfSome}
-use Rattle.guppy_support.specs.Graph.{IsEdgeAt}
-use Rattle.guppy_support.specs.Paths.{HasEdge}
+use Rattle.digraphs.specs.Graph.{IsEdgeAt}
+use Rattle.digraphs.specs.Paths.{HasEdge}
 use Rattle.feature_labels.specs.Names.{id_of}
 use Rattle.feature_graph.specs.Ordered.{edges_of}
 use Rattle.feature_graph.specs.Views.{graph_of, tables_of_graph}

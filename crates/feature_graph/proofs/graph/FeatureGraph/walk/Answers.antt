@@ -1,6 +1,6 @@
 use Rattle.std.proofs.Common.{◌≡◌, ◌∙◌, refl, sym, length, ℕ, IsTrue}
 use Rattle.std.specs.Prelude.{◌↔◌}
-use Rattle.guppy_support.specs.Bits.{has}
+use Rattle.digraphs.specs.Bits.{has}
 use Rattle.guppy_packages.specs.Tables.{Tables}
 use Rattle.feature_core.specs.Built.{IsBuilt}
 use Rattle.feature_core.specs.Nodes.{nodes}

@@ -1,6 +1,6 @@
 use Rattle.std.proofs.Common.{◌≡◌, ℕ, length, map, IsTrue}
 use Rattle.std.specs.Prelude.{◌↔◌}
-use Rattle.guppy_support.specs.Bits.{has}
+use Rattle.digraphs.specs.Bits.{has}
 use Rattle.feature_labels.specs.Names.{id_of}
 use Rattle.feature_core.specs.Nodes.{nodes}
 use Rattle.feature_graph.specs.Views.{tables_of_graph}

@@ -1,5 +1,5 @@
 use Rattle.std.proofs.Common.{◌≡◌, length, sym, subst}
-use Rattle.guppy_support.specs.Bits.{has}
+use Rattle.digraphs.specs.Bits.{has}
 use Rattle.feature_core.specs.Nodes.{nodes}
 use Rattle.feature_core.specs.Offers.{content_of}
 use Rattle.walk_checks.specs.Exact.{IsExplainedRun}

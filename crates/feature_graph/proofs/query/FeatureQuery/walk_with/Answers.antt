@@ -1,5 +1,5 @@
 use Rattle.std.proofs.Common.{◌≡◌, rules, refl, sym, subst}
-use Rattle.guppy_support.specs.Bits.{has}
+use Rattle.digraphs.specs.Bits.{has}
 use Rattle.walk_engine.specs.Explanations.{IsExplainedWalk}
 use Rattle.walk_engine.specs.Walks.{LegalRun, MayAsk}
 use Rattle.feature_graph.specs.Visits.{query_content, showable, shown}

@@ -1,6 +1,6 @@
 use Rattle.std.proofs.Common.{sym, subst}
 use Rattle.walk_engine.specs.Walks.{was_accepted}
-use Rattle.guppy_support.specs.Bits.{has}
+use Rattle.digraphs.specs.Bits.{has}
 use Rattle.feature_graph.specs.Explained.{IsBacked, ListMembers}
 use Rattle.feature_graph.specs.Views.{graph_of}
 use Rattle.feature_graph.specs.inner.Listings.{AreOffered}

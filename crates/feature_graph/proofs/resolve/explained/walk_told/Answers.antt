@@ -1,7 +1,7 @@
 use Rattle.std.proofs.Common.{◌≡◌, ◌∙◌, length, ap, sym, subst}
 use Rattle.feature_core.specs.Built.{IsBuilt}
 use Rattle.feature_core.specs.Nodes.{nodes}
-use Rattle.guppy_support.specs.Bits.{has}
+use Rattle.digraphs.specs.Bits.{has}
 use Rattle.feature_graph.specs.Values.{Query, Set}
 use Rattle.feature_graph.specs.Views.{graph_of}
 use Rattle.feature_graph.proofs.BuiltLemmas.{built_count}

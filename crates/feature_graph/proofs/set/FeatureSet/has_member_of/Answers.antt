@@ -1,5 +1,5 @@
 use Rattle.std.proofs.Common.{◌≡◌, ◌<◌, ◌≤◌, ◌+◌, length, arith, sym, subst, true, false}
-use Rattle.guppy_support.specs.Bits.{has}
+use Rattle.digraphs.specs.Bits.{has}
 use Rattle.feature_core.specs.Nodes.{first_node}
 use Rattle.feature_graph.specs.Packages.{has_member_of}
 use Rattle.feature_graph.specs.Views.{tables_of_graph}

@@ -1,5 +1,5 @@
 use Rattle.std.proofs.Common.{◌≡◌, ◌<◌, ◌≤◌, ℕ, false}
-use Rattle.guppy_support.specs.Bits.{has}
+use Rattle.digraphs.specs.Bits.{has}
 use Rattle.feature_core.specs.Nodes.{first_node}
 use Rattle.feature_graph.specs.Views.{tables_of_graph}
 use Rattle.feature_graph.proofs.set.FeatureSet.has_member_of.Given as goal

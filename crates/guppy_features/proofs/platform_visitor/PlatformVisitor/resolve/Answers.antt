@@ -1,6 +1,6 @@
 use Rattle.std.proofs.Common.{◌≡◌, ◌∙◌, Bool, ap, refl, sym}
 use Rattle.std.proofs.lemmas.Result.{IfOk-weaker}
-use Rattle.guppy_support.specs.Bits.{has}
+use Rattle.digraphs.specs.Bits.{has}
 use Rattle.feature_graph.specs.LinkValues.{Link}
 use Rattle.feature_graph.specs.Visits.{answered, offered, query_content, shown}
 use Rattle.feature_graph.proofs.Visits.{is_explained_walk}

@@ -1,7 +1,7 @@
 use Rattle.std.proofs.Common.{ℕ, ◌∙◌, ◌<◌, length, subst, sym}
 use Rattle.std.specs.Prelude.{All}
 use Rattle.std.proofs.lemmas.List.Elements.{All-same}
-use Rattle.order_views.specs.Views.{in_order}
+use Rattle.guppy_support.specs.Views.{in_order}
 use Rattle.guppy_packages.proofs.PackageOrders.{listed_below, order_long}
 use Rattle.guppy_packages.proofs.package_set.PackageSet.packages.Goals as goal
 

@@ -4,7 +4,7 @@ use Rattle.std.proofs.lemmas.Option.{slice_get_within}
 use Rattle.std.proofs.lemmas.Bool.{eqb-true}
 use Rattle.walk_engine.specs.declared.walks.Half.TheVariants.{Optional}
 use Rattle.walk_engine.specs.declared.walks.Ask.{Ask}
-use Rattle.guppy_support.specs.Bits.{has}
+use Rattle.digraphs.specs.Bits.{has}
 use Rattle.walk_engine.specs.Walks.{Way, has_half, is_gated}
 use Rattle.walk_engine.specs.inner.WalkProgress.{findings}
 use Rattle.walk_engine.proofs.Answered.{and_both}

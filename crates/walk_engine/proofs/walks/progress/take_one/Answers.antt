@@ -4,7 +4,7 @@ use Rattle.std.proofs.lemmas.Option.{slice_get_within}
 use Rattle.std.proofs.lemmas.Bool.{eqb-true}
 use Rattle.walk_engine.specs.declared.walks.Half.TheVariants.{Full, Required, Optional}
 use Rattle.walk_engine.specs.declared.walks.Ask.{Ask}
-use Rattle.guppy_support.specs.Bits.{has}
+use Rattle.digraphs.specs.Bits.{has}
 use Rattle.walk_engine.specs.Walks.{Way, has_half}
 use Rattle.walk_engine.specs.inner.WalkProgress.{Findings, findings, IsAt, with_edge, Extends}
 use Rattle.walk_engine.specs.declared.walks.StepReason.TheVariants.{Edge}

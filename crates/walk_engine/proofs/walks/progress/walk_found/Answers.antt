@@ -1,5 +1,5 @@
 use Rattle.std.proofs.Common.{◌∙◌, arith}
-use Rattle.guppy_support.specs.Bits.{has}
+use Rattle.digraphs.specs.Bits.{has}
 use Rattle.walk_engine.specs.inner.WalkProgress.{findings}
 use Rattle.walk_engine.proofs.WalkEnds.{finished, finished_explained, reads_members}
 use Rattle.walk_engine.proofs.walks.progress.walk_found.Goals as goal

@@ -1,7 +1,7 @@
 use Rattle.std.proofs.Common.{◌≡◌, ◌<◌, ◌+◌, suc, ℕ, List, Some, length, take, refl, sym, ◌∙◌, ap, subst, arith, add-one}
 use Rattle.std.specs.Prelude.{slice_get, slice_index_or, ◌==◌, vec_len}
 use Rattle.std.proofs.lemmas.Option.{slice_get_read}
-use Rattle.guppy_support.specs.Bits.{has}
+use Rattle.digraphs.specs.Bits.{has}
 use Rattle.walk_engine.specs.declared.walks.progress.Condition.TheVariants.{Start, Gate}
 use Rattle.walk_engine.specs.declared.walks.progress.Found.{Found}
 use Rattle.walk_engine.specs.Walks.{Content, Way, EndsAreNodes, starting, releasing, MayAsk}

@@ -1,5 +1,5 @@
 use Rattle.std.proofs.Common.{◌≡◌, ◌+◌, ◌-◌, ◌≤◌, length, take}
-use Rattle.guppy_support.specs.Bits.{has}
+use Rattle.digraphs.specs.Bits.{has}
 use Rattle.walk_engine.specs.Walks.{MayAsk}
 use Rattle.walk_engine.specs.inner.WalkProgress.{findings, IsListed, IsDone, reads_of}
 use Rattle.walk_engine.proofs.walks.progress.walk_members.Given as goal

@@ -1,7 +1,7 @@
 use Rattle.std.proofs.Common.{rules, ◌≡◌, ◌-◌, ◌≤◌, length, get_or, arith}
 use Rattle.std.proofs.lemmas.List.{get_or_read}
-use Rattle.guppy_support.specs.Rows.{places}
-use Rattle.guppy_support.specs.Graph.{sources}
+use Rattle.digraphs.specs.Rows.{places}
+use Rattle.digraphs.specs.Graph.{sources}
 use Rattle.digraph_orders.proofs.OutEdgeLemmas.{IsEdgeTo, edge_to, out_length}
 use Rattle.digraph_orders.proofs.ComponentLemmas.{next_edge}
 use Rattle.digraph_orders.proofs.components.walk.Walk.next.Goals as goal

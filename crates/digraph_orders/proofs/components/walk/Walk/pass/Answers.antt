@@ -1,8 +1,8 @@
 use Rattle.std.proofs.Common.{rules, ◌≡◌, ◌+◌, ◌-◌, ◌<◌, ℕ, inl, inr, length, get_or, arith, sym}
 use Rattle.std.proofs.lemmas.Bool.{cases_eq}
 use Rattle.std.proofs.lemmas.List.{get_or_read}
-use Rattle.guppy_support.specs.Rows.{places}
-use Rattle.guppy_support.specs.Graph.{sources}
+use Rattle.digraphs.specs.Rows.{places}
+use Rattle.digraphs.specs.Graph.{sources}
 use Rattle.digraph_orders.specs.inner.NodeEdges.{target_at}
 use Rattle.digraph_orders.specs.inner.ComponentWalk.{IsWalking}
 use Rattle.digraph_orders.proofs.ComponentLemmas.{joined, stepped}

@@ -1,5 +1,5 @@
 use Rattle.std.proofs.Common.{length, arith, ap, get_or}
-use Rattle.guppy_support.specs.Bits.{members}
+use Rattle.digraphs.specs.Bits.{members}
 use Rattle.digraph_orders.proofs.PlaceLemmas.{places_within}
 use Rattle.digraph_orders.proofs.ChoiceLemmas.{choose_start, order_end, filled}
 use Rattle.digraph_orders.proofs.order.listing.Plan.begin.Goals as goal

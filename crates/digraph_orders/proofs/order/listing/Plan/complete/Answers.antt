@@ -1,6 +1,6 @@
 use Rattle.std.proofs.Common.{◌∙◌, ap, arith}
-use Rattle.guppy_support.specs.Bits.{members}
-use Rattle.guppy_support.specs.Rows.{places}
+use Rattle.digraphs.specs.Bits.{members}
+use Rattle.digraphs.specs.Rows.{places}
 use Rattle.digraph_orders.specs.inner.Plans.{rest_of, IsWithinIn}
 use Rattle.digraph_orders.proofs.GroupLemmas.{alone_done}
 use Rattle.digraph_orders.proofs.ChoiceLemmas.{within_end, row_done}

@@ -1,5 +1,5 @@
 use Rattle.std.proofs.Common.{get_or, arith}
-use Rattle.guppy_support.specs.Bits.{members}
+use Rattle.digraphs.specs.Bits.{members}
 use Rattle.digraph_orders.specs.inner.Plans.{rest_of}
 use Rattle.digraph_orders.proofs.OutEdgeLemmas.{out_length}
 use Rattle.digraph_orders.proofs.AtLemmas.{at_end}

@@ -1,5 +1,5 @@
 use Rattle.std.proofs.Common.{◌≡◌, false, length}
-use Rattle.guppy_support.specs.Bits.{has}
+use Rattle.digraphs.specs.Bits.{has}
 use Rattle.digraph_orders.specs.inner.Plans.{IsAtIn, HasRoom}
 use Rattle.digraph_orders.proofs.order.listing.Plan.list.Given as goal
 

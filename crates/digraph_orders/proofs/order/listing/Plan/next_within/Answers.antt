@@ -1,6 +1,6 @@
 use Rattle.std.proofs.Common.{◌≡◌, ◌<◌, length, arith, get_or}
-use Rattle.guppy_support.specs.Bits.{members}
-use Rattle.guppy_support.specs.Rows.{places}
+use Rattle.digraphs.specs.Bits.{members}
+use Rattle.digraphs.specs.Rows.{places}
 use Rattle.digraph_orders.specs.inner.Plans.{rest_of, IsFreshPlace}
 use Rattle.digraph_orders.proofs.PlaceLemmas.{places_within}
 use Rattle.digraph_orders.proofs.ChoiceLemmas.{choose_ready, choose_rest, within_end, rank_small, takes_row, row_done}

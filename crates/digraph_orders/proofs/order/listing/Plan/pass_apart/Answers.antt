@@ -1,5 +1,5 @@
 use Rattle.std.proofs.Common.{length, arith, ap, get_or}
-use Rattle.guppy_support.specs.Bits.{members}
+use Rattle.digraphs.specs.Bits.{members}
 use Rattle.digraph_orders.proofs.PlaceLemmas.{places_within}
 use Rattle.digraph_orders.specs.inner.Plans.{rest_of}
 use Rattle.digraph_orders.proofs.AtLemmas.{apart_positive, apart_next}

@@ -1,5 +1,5 @@
 use Rattle.std.proofs.Common.{get_or}
-use Rattle.guppy_support.specs.Bits.{members}
+use Rattle.digraphs.specs.Bits.{members}
 use Rattle.digraph_orders.specs.inner.Plans.{rest_of}
 use Rattle.digraph_orders.proofs.AtLemmas.{firm_positive, firm_next}
 use Rattle.digraph_orders.proofs.order.listing.Plan.pass_firm.Goals as goal

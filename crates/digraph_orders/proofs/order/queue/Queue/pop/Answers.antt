@@ -1,5 +1,5 @@
 use Rattle.std.proofs.Common.{◌≡◌, ◌/◌, arith, ap, sym, ◌∙◌}
-use Rattle.guppy_support.specs.Bits.{members}
+use Rattle.digraphs.specs.Bits.{members}
 use Rattle.digraph_orders.proofs.QueueLemmas.{first_least, least_of_least, leaves, upper_less, lower_less, ticks_less, none_left, members_none}
 use Rattle.digraph_orders.proofs.order.queue.Queue.pop.Goals as goal
 

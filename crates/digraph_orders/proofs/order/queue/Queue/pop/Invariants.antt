@@ -1,6 +1,6 @@
 use Rattle.std.proofs.Common.{◌≡◌, ◌+◌}
 use Rattle.digraph_orders.specs.inner.Queues.{IsAbove}
-use Rattle.guppy_support.proofs.BitLemmas.{ticks}
+use Rattle.digraphs.proofs.BitLemmas.{ticks}
 use Rattle.digraph_orders.proofs.order.queue.Queue.pop.Given as goal
 
 abbrev pub invariant-loop-block : goal.invariant-loop-block

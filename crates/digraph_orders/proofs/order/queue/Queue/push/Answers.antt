@@ -1,5 +1,5 @@
 use Rattle.std.proofs.Common.{◌<◌, true, List, Bool, length, set, subst}
-use Rattle.guppy_support.specs.Bits.{members}
+use Rattle.digraphs.specs.Bits.{members}
 use Rattle.digraph_orders.specs.inner.Queues.{Joins}
 use Rattle.digraph_orders.proofs.QueueLemmas.{joins}
 use Rattle.digraph_orders.proofs.order.queue.Queue.push.Goals as goal

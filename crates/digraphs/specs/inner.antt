@@ -1,0 +1,3 @@
+pub mod EdgeColumns
+pub mod Filling
+pub mod Words

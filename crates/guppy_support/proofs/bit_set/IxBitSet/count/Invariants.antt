@@ -1,7 +1,0 @@
-use Rattle.std.proofs.Common.{◌≡◌, ◌*◌}
-use Rattle.guppy_support.specs.inner.Words.{bits_of}
-use Rattle.guppy_support.proofs.BitLemmas.{ticks}
-use Rattle.guppy_support.proofs.bit_set.IxBitSet.count.Given as goal
-
-abbrev pub invariant-loop-word : goal.invariant-loop-word
-invariant-loop-word l = l.count ≡ ticks (bits_of (l.word-index * 64) l.word-items)

@@ -1,6 +1,0 @@
-use Rattle.std.proofs.Common.{◌≡◌, ◌≤◌, ◌<◌, ◌*◌, ℕ}
-use Rattle.guppy_support.specs.inner.Words.{word_bit}
-use Rattle.guppy_support.proofs.bit_set.IxBitSet.next_from.Given as goal
-
-abbrev pub invariant-loop-place : goal.invariant-loop-place
-invariant-loop-place l = (j : ℕ) → l.from ≤ j → j < l.place * 64 → word_bit l.self-inside.words.items j ≡ 0

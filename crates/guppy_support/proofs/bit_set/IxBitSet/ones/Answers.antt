@@ -1,6 +1,0 @@
-use Rattle.std.proofs.Common.{◌∙◌, sym, arith}
-use Rattle.guppy_support.proofs.BitLemmas.{length-members}
-use Rattle.guppy_support.proofs.bit_set.IxBitSet.ones.Goals as goal
-
-pub invariant_of-result : goal.invariant_of-result
-invariant_of-result c = (omega arith, c.count.ensures ∙ sym (length-members c.args.self.now))

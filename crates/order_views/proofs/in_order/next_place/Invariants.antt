@@ -1,7 +1,0 @@
-use Rattle.std.proofs.Common.{◌≡◌}
-use Rattle.order_views.specs.inner.Cursors.{members_left}
-use Rattle.order_views.proofs.in_order.next_place.Given as goal
-
--- No member is between `from` and `place`.
-abbrev pub invariant-loop-place : goal.invariant-loop-place
-invariant-loop-place l = members_left l.reading l.list l.members l.from ≡ members_left l.reading l.list l.members l.place
