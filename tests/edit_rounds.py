@@ -209,6 +209,8 @@ class Rounds:
         for edit in edits:
             texts, functions = edit.applied(texts, self.folder), functions | edit.functions(self.folder)
         found, _ = self.said_of(texts, functions)
+        while self.respelled(functions, found):
+            found, _ = self.said_of(texts, functions)
         if is_unread(found.said):
             half = len(edits) // 2
             return {**self.refused_together(edits[:half]), **self.refused_together(edits[half:])} if half else {}

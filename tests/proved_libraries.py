@@ -64,6 +64,11 @@ class ProvedLibraries:
                 lacking.append(crate.name)
         return lacking
 
+    def is_proved(self, name):
+        """Returns whether `rt ci` has kept a proof of the crate `name` as it stands, over the libraries that were taken."""
+        crate = self.named(name)
+        return os.path.isdir(self.kept.place(crate, False, self.kept.key(crate)))
+
     def is_copied(self, crate):
         """Copies the library in the crate's own folder. Returns whether there is one."""
         made = self.top / 'crates' / crate.name / 'out/rlib'
