@@ -84,8 +84,8 @@ impl Digraph {
     /// Builds the digraph of `nodes` nodes and `edges`. Returns `BadNode` or `Unsorted` for the first edge with
     /// a fault; the ends of an edge are checked before its place.
     ///
-    /// Returns `Memory` if an allocation fails, or if there are more than 2147483647 nodes or 4294967295 edges.
-    /// Such a digraph would take over 24 gigabytes.
+    /// Returns `Memory` if an allocation fails, or if there are more than 2147483647 nodes or 4294967295 edges
+    /// ([limits](../../../docs/DIFFERENCES.md#limits)). Such a digraph would take over 17 gigabytes.
     pub fn new(alloc: Global, nodes: usize, edges: &[Edge]) -> Result<Digraph, DigraphError>
         ensures made { IfOk result (λ g. g ≡ record { nodes = nodes; edges = edges.now }) }
         ensures sound { IfOk result (λ g. IsDigraph g) }
@@ -101,7 +101,7 @@ impl Digraph {
     }
 
     /// Builds the digraph of `edges`, which have no fault by the precondition and aren't copied. Returns
-    /// `AllocError` where `new` returns `Memory`.
+    /// `AllocError` where `new` returns `Memory` ([limits](../../../docs/DIFFERENCES.md#limits)).
     pub fn from_columns(
         alloc: Global,
         nodes: usize,

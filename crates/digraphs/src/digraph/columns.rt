@@ -54,7 +54,8 @@ impl EdgeColumns {
     }
 
     /// Appends an edge. Returns `AllocError`, and leaves the list unchanged, if an allocation fails, if the
-    /// source is over 4294967295, or if the target is over 2147483647.
+    /// source is over 4294967295, or if the target is over 2147483647
+    /// ([limits](../../../../docs/DIFFERENCES.md#limits)).
     pub fn push(&mut self, edge: Edge) -> Result<(), AllocError>
         ensures pushed { OnOk result (self.new ≡ self.old ++ edge ∷ []) }
         ensures untouched { OnErr result (self.new ≡ self.old) }
