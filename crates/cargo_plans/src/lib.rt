@@ -6,7 +6,9 @@ mod planning;
 mod words;
 
 pub use fault::PlanFault;
-pub use plan_steps::{PackageVisit, Place, Plan, Platform, Settings, Side, Unit, on_places};
+pub use plan_steps::{
+    PackageVisit, Place, Plan, Platform, Settings, Side, StepFault, Unit, on_places,
+};
 pub use plan_words::{PackageChoice, Selection, WordFault};
 pub use planning::plan;
 pub use words::PlanWords;

@@ -8,7 +8,7 @@ ghost use Rattle.cargo_plans.specs.Plans.{IsPlanOf, settings_by};
 ghost use Rattle.cargo_plans.specs.Refusals.{IsRefusal};
 ghost use Rattle.cargo_plans.specs.WordsView.{words_text};
 
-use crate::fault::{PlanFault, of_steps, of_words};
+use crate::fault::{PlanFault, of_words};
 use crate::words::PlanWords;
 use cargo_workspaces::Workspace;
 use plan_steps::{Plan, Platform, Settings, StepFault, plan_of};
@@ -38,7 +38,7 @@ fn plan_chosen<'w, P: Platform>(
 }
 
 /// Returns the plan of `workspace` for `words`; else the first fault: of the words, then of tests, of a started package that isn't
-/// on, and of a dependency that the document lacks. `Memory` if an allocation fails.
+/// on, and of a dependency that the document lacks. `StepFault::Memory` if an allocation fails.
 pub fn plan<'w, P: Platform>(
     alloc: Global,
     workspace: &'w Workspace<'_>,
@@ -50,7 +50,7 @@ pub fn plan<'w, P: Platform>(
     match choose(alloc, workspace, &words.selection) {
         Ok(chosen) => match plan_chosen(alloc, workspace, words, &chosen) {
             Ok(plan) => Ok(plan),
-            Err(fault) => Err(of_steps(fault)),
+            Err(fault) => Err(PlanFault::Steps(fault)),
         },
         Err(fault) => Err(of_words(fault)),
     }

@@ -1,5 +1,5 @@
 -- From the arguments and the bytes of files to a plan with a property, or to the message why there is none.
-use Rattle.std.specs.Prelude.{◌≡◌, List, [], ◌∷◌, Bool, true, false, IsFalse, None, Ok, IsErrAnd, IsSomeAnd, IsUtf8, codes}
+use Rattle.std.specs.Prelude.{◌≡◌, List, [], ◌∷◌, Bool, IsFalse, None, Ok, IsErrAnd, IsSomeAnd, IsUtf8, codes}
 use Rattle.json.specs.Json.{Json}
 use Rattle.cargo_workspaces.specs.Workspaces.{Text, WorkspaceText}
 use Rattle.numbered_workspaces.specs.Faults.{workspace_in}
@@ -8,9 +8,8 @@ use Rattle.plan_platforms.specs.HeldSpecs.{AreHeld}
 use Rattle.plan_messages.specs.Messages.{plan_message}
 use Rattle.cargo_plans.specs.plan_steps.Plans.{PlanText}
 use Rattle.cargo_plans.specs.Plans.{WordsText, IsPlanOf}
-use Rattle.cargo_plans.specs.Refusals.{IsRefusal}
+use Rattle.cargo_plans.specs.Refusals.{IsRefusal, is_memory}
 use Rattle.cargo_plans.specs.declared.fault.PlanFault.{PlanFault}
-use Rattle.cargo_plans.specs.declared.fault.PlanFault.TheVariants as fault
 use Rattle.feats_files.specs.Documents.{document, not_json_message}
 use Rattle.feats_files.specs.Messages.{joined}
 use Rattle.feats_files.specs.Platforms.{AreHeldOnEach, IsSpecRefusal}
@@ -28,11 +27,6 @@ pub record AfterPlan (inputs : InputsText) (w : WorkspaceText) (words : WordsTex
   pub plan : PlanText
   pub is_plan : IsPlanOf w words plan
   pub holds : Q (planned inputs w words plan)
-
--- Whether the fault is out of memory. `IsRefusal` holds for that fault always, so a message may not rest on it.
-abbrev pub is_memory : PlanFault → Bool
-is_memory fault.Memory = true
-is_memory _ = false
 
 -- The message why there is none: the words have no plan, or the plan is refused.
 pub data IsPlanRefusal (inputs : InputsText) (w : WorkspaceText) (words : WordsText) (R : PlannedText → Text → Type 0) (message : Text) : Type 0 where

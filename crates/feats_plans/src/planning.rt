@@ -16,7 +16,7 @@ ghost use Rattle.feats_plans.specs.Selections as spec;
 use crate::basis::Basis;
 use crate::inputs::PlanFiles;
 use crate::planned::{PlanVisitor, Planned};
-use cargo_plans::{PackageChoice, PlanFault, PlanWords, Selection, plan};
+use cargo_plans::{PackageChoice, PlanFault, PlanWords, Selection, StepFault, plan};
 use cargo_workspaces::Workspace;
 use feats_files::{Fault, held_on, held_on_each};
 use feats_words::CommandArguments;
@@ -96,7 +96,7 @@ fn planned_output<'w, 'n, 's, V: PlanVisitor>(
             drop(plan);
             output
         }
-        Err(PlanFault::Memory) => Err(Fault::Memory),
+        Err(PlanFault::Steps(StepFault::Memory)) => Err(Fault::Memory),
         Err(fault) => Err(plan_refused(alloc, workspace, fault)),
     }
 }

@@ -1,20 +1,27 @@
 //! The reasons why rows are rejected.
 use std::alloc::{AllocError, AllocFailed};
+use thiserror::Error;
 
 /// The fault of a row.
-#[derive(Clone, Copy, PartialEq, Eq, Debug)]
+#[derive(Clone, Copy, PartialEq, Eq, Debug, Error)]
 pub enum RowFault {
     /// A Feature or Dep row before any Package row.
+    #[error("no package")]
     NoPackage,
     /// A Package row whose id an earlier row has.
+    #[error("duplicate package")]
     DuplicatePackage,
     /// A Feature row whose name an earlier row of its package has.
+    #[error("duplicate feature")]
     DuplicateFeature,
     /// A Dep row whose target is the id of no package.
+    #[error("unknown target")]
     UnknownTarget,
     /// A Dep row whose pair of packages already has a link of another name.
+    #[error("other name")]
     OtherName,
     /// An allocation failed, or there are 4294967296 package links or more.
+    #[error("out of memory")]
     Memory,
 }
 

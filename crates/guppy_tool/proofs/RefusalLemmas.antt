@@ -1,10 +1,9 @@
 -- Claims that hold unless an allocation fails, and a row file's errors as refusals.
 use Rattle.std.proofs.Common.{◌≡◌, Result, Err, ap}
-use Rattle.guppy_packages.specs.declared.row_error.RowFault.TheVariants as row
 use Rattle.row_files.specs.declared.error.RowFileError.{RowFileError}
 use Rattle.row_files.specs.declared.error.RowFileError.TheVariants as error
 use Rattle.row_files.specs.FirstFault as file
-use Rattle.guppy_tool.specs.Faults.{Refusal, IfNotMemory, usage, bad_id, cannot_read, not_text, malformed, no_package, duplicate_package, duplicate_feature, unknown_target, other_name, unknown_package, unknown_feature, out_of_memory, cannot_write}
+use Rattle.guppy_tool.specs.Faults.{Refusal, IfNotMemory, usage, bad_id, cannot_read, row_file, unknown_package, unknown_feature, out_of_memory, cannot_write}
 use Rattle.guppy_tool.specs.RowFileRefusals.{file_refusal, in_refusals}
 
 -- a consequence of a claim that holds unless an allocation fails
@@ -13,13 +12,7 @@ if_not_memory out_of_memory P Q f h = tt
 if_not_memory usage P Q f h = f h
 if_not_memory (bad_id word) P Q f h = f h
 if_not_memory cannot_read P Q f h = f h
-if_not_memory not_text P Q f h = f h
-if_not_memory (malformed n) P Q f h = f h
-if_not_memory (no_package n) P Q f h = f h
-if_not_memory (duplicate_package n) P Q f h = f h
-if_not_memory (duplicate_feature n) P Q f h = f h
-if_not_memory (unknown_target n) P Q f h = f h
-if_not_memory (other_name n) P Q f h = f h
+if_not_memory (row_file error) P Q f h = f h
 if_not_memory (unknown_package id) P Q f h = f h
 if_not_memory (unknown_feature id) P Q f h = f h
 if_not_memory cannot_write P Q f h = f h
@@ -32,9 +25,4 @@ pub told : {X : Type 0} (given : Result X RowFileError) (e : RowFileError) → f
 told given error.Memory h = tt
 told given error.NotText h = refused given _ h
 told given (error.Malformed n) h = refused given _ h
-told given (error.Row n row.Memory) h = tt
-told given (error.Row n row.NoPackage) h = refused given _ h
-told given (error.Row n row.DuplicatePackage) h = refused given _ h
-told given (error.Row n row.DuplicateFeature) h = refused given _ h
-told given (error.Row n row.UnknownTarget) h = refused given _ h
-told given (error.Row n row.OtherName) h = refused given _ h
+told given (error.Row n fault) h = refused given _ h

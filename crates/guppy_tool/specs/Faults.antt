@@ -4,21 +4,16 @@ use Rattle.std.specs.String.{string_bytes}
 use Rattle.guppy_packages.specs.Rows.{Text}
 use Rattle.byte_devices.specs.declared.whole.ReadError.{ReadError}
 use Rattle.byte_devices.specs.declared.whole.ReadError.TheVariants as error
+use Rattle.row_files.specs.declared.error.RowFileError.{RowFileError}
 use Rattle.guppy_tool.specs.declared.fault.Fault.{Fault}
 use Rattle.guppy_tool.specs.declared.fault.Fault.TheVariants as fault
 
--- the reason why there is no output; a number is a line number
+-- the reason why there is no output
 pub data Refusal : Type 0 where
   usage : Refusal
   bad_id : Text → Refusal
   cannot_read : Refusal
-  not_text : Refusal
-  malformed : ℕ → Refusal
-  no_package : ℕ → Refusal
-  duplicate_package : ℕ → Refusal
-  duplicate_feature : ℕ → Refusal
-  unknown_target : ℕ → Refusal
-  other_name : ℕ → Refusal
+  row_file : RowFileError → Refusal
   unknown_package : Text → Refusal
   unknown_feature : Text → Refusal
   out_of_memory : Refusal
@@ -28,13 +23,7 @@ abbrev pub refusal_of : Fault → Refusal
 refusal_of fault.Usage = usage
 refusal_of (fault.BadId argument) = bad_id (string_bytes argument)
 refusal_of fault.CannotRead = cannot_read
-refusal_of fault.NotText = not_text
-refusal_of (fault.Malformed line) = malformed line
-refusal_of (fault.NoPackage line) = no_package line
-refusal_of (fault.DuplicatePackage line) = duplicate_package line
-refusal_of (fault.DuplicateFeature line) = duplicate_feature line
-refusal_of (fault.UnknownTarget line) = unknown_target line
-refusal_of (fault.OtherName line) = other_name line
+refusal_of (fault.RowFile error) = row_file error
 refusal_of (fault.UnknownPackage id) = unknown_package (string_bytes id)
 refusal_of (fault.UnknownFeature id) = unknown_feature (string_bytes id)
 refusal_of fault.Memory = out_of_memory

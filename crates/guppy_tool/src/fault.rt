@@ -1,10 +1,9 @@
 //! The faults of the program.
 ghost use Rattle.std.specs.Prelude.{◌≡◌};
 ghost use Rattle.guppy_tool.specs.Faults.{refusal_of, read_refusal};
-ghost use Rattle.guppy_tool.specs.RowFileRefusals.{row_refusal, file_refusal};
+ghost use Rattle.guppy_tool.specs.RowFileRefusals.{file_refusal};
 
 use byte_devices::ReadError;
-use guppy_packages::RowFault;
 use row_files::RowFileError;
 use std::alloc::{AllocError, AllocFailed};
 use thiserror::Error;
@@ -18,20 +17,9 @@ pub enum Fault {
     BadId { argument: String },
     #[error("cannot read")]
     CannotRead,
-    #[error("not UTF-8")]
-    NotText,
-    #[error("line {line}: malformed")]
-    Malformed { line: usize },
-    #[error("line {line}: no package")]
-    NoPackage { line: usize },
-    #[error("line {line}: duplicate package")]
-    DuplicatePackage { line: usize },
-    #[error("line {line}: duplicate feature")]
-    DuplicateFeature { line: usize },
-    #[error("line {line}: unknown target")]
-    UnknownTarget { line: usize },
-    #[error("line {line}: other name")]
-    OtherName { line: usize },
+    /// The bytes aren't a row file. An allocation that fails is `Memory` of the program, never of its file.
+    #[error("{0}")]
+    RowFile(RowFileError),
     #[error("unknown package: {id}")]
     UnknownPackage { id: String },
     #[error("unknown feature: {id}")]
@@ -62,29 +50,13 @@ impl<T: Drop> From<AllocFailed<T>> for Fault {
     }
 }
 
-/// Returns the fault of a row in this line.
-fn row_fault(line: usize, fault: RowFault) -> Fault
-    ensures { refusal_of result ≡ row_refusal line fault }
-{
-    match fault {
-        RowFault::NoPackage => Fault::NoPackage { line },
-        RowFault::DuplicatePackage => Fault::DuplicatePackage { line },
-        RowFault::DuplicateFeature => Fault::DuplicateFeature { line },
-        RowFault::UnknownTarget => Fault::UnknownTarget { line },
-        RowFault::OtherName => Fault::OtherName { line },
-        RowFault::Memory => Fault::Memory,
-    }
-}
-
 impl From<RowFileError> for Fault {
     ghost from_gives = { λ error fault. refusal_of fault ≡ file_refusal error };
 
     fn from(error: RowFileError) -> Fault {
         match error {
-            RowFileError::NotText => Fault::NotText,
-            RowFileError::Malformed { line } => Fault::Malformed { line },
-            RowFileError::Row { line, fault } => row_fault(line, fault),
             RowFileError::Memory => Fault::Memory,
+            refused => Fault::RowFile(refused),
         }
     }
 }

@@ -1,12 +1,11 @@
 -- The plans of the selected members, each alone.
-use Rattle.std.specs.Prelude.{◌≡◌, ℕ, List, [], ◌∷◌, Bool, true, false, IsFalse, Some, map, nat_eq, slice_get}
+use Rattle.std.specs.Prelude.{◌≡◌, ℕ, List, [], ◌∷◌, IsFalse, Some, map, nat_eq, slice_get}
 use Rattle.std.specs.List.{AllByRecursion, filter, list_any}
 use Rattle.cargo_workspaces.specs.Workspaces.{Text, PackageText, WorkspaceText}
 use Rattle.cargo_plans.specs.plan_steps.Plans.{PlanText}
 use Rattle.cargo_plans.specs.Plans.{AfterWords, IsPlanOf, WordsText}
-use Rattle.cargo_plans.specs.Refusals.{IsRefusal}
+use Rattle.cargo_plans.specs.Refusals.{IsRefusal, is_memory}
 use Rattle.cargo_plans.specs.declared.fault.PlanFault.{PlanFault}
-use Rattle.cargo_plans.specs.declared.fault.PlanFault.TheVariants as fault
 use Rattle.plan_messages.specs.Messages.{plan_message}
 use Rattle.cargo_plans.specs.plan_units.Units.{UnitText}
 use Rattle.plan_words.specs.Selections.{SelectionText, named}
@@ -23,10 +22,6 @@ alone id words = record { selection = select_one id words.selection; test = word
 pub data OutcomeText : Type 0 where
   built : List UnitText → OutcomeText
   not_planned : Text → OutcomeText
-
-abbrev pub is_memory : PlanFault → Bool
-is_memory fault.Memory = true
-is_memory _ = false
 
 -- The words are refused, and this is the message why.
 pub record IsRefusedWith (w : WorkspaceText) (words : WordsText) (message : Text) : Type 0 where

@@ -7,7 +7,7 @@ ghost use Rattle.plan_duplicates.specs.MemberPlans.{IsOutcome};
 ghost use Rattle.plan_duplicates.specs.Views.{outcome_text};
 
 use crate::copies::copies_of;
-use cargo_plans::{PlanFault, PlanWords, Unit, plan};
+use cargo_plans::{PlanFault, PlanWords, StepFault, Unit, plan};
 use cargo_workspaces::Workspace;
 use feats_files::Fault;
 use plan_messages::plan_refused;
@@ -49,7 +49,7 @@ pub(crate) fn outcome_of<'w, P: Platform>(
 {
     match plan(alloc, workspace, words) {
         Ok(plan) => Ok(Outcome::Built(copies_of(alloc, plan.units())?)),
-        Err(PlanFault::Memory) => Err(AllocError),
+        Err(PlanFault::Steps(StepFault::Memory)) => Err(AllocError),
         Err(fault) => Ok(Outcome::NotPlanned(message_of(alloc, workspace, fault)?)),
     }
 }

@@ -94,12 +94,12 @@ module _ (one : VisitsAgree) (w : WorkspaceText) (words : WordsText) (p : PlanTe
       let moved : IsRefused w (settings_by words a.chosen) a.chosen.selected e = subst (λ (c : ChosenText). IsRefused w (settings_by words c) c.selected e) same b.holds in
       subst is_memory (sym (excludes one w (settings_by words a.chosen) a.chosen.selected p e a.holds moved)) tt
 
-  of_words : (e : PlanFault) → IsRefusal w words e → e ≡ fault.Memory
+  of_words : (e : PlanFault) → IsRefusal w words e → e ≡ fault.Steps step.Memory
   of_words (fault.Words e) b = absurd (clash a.chosen (refusal_of e) (sym a.are_accepted ∙ b))
-  of_words (fault.NoTests q) b = absurd (refused (step.NoTests q) b)
-  of_words (fault.NotOn q side) b = absurd (refused (step.NotOn q side) b)
-  of_words (fault.Lacking q name) b = absurd (refused (step.Lacking q name) b)
-  of_words fault.Memory b = refl
+  of_words (fault.Steps (step.NoTests q)) b = absurd (refused (step.NoTests q) b)
+  of_words (fault.Steps (step.NotOn q side)) b = absurd (refused (step.NotOn q side) b)
+  of_words (fault.Steps (step.Lacking q name)) b = absurd (refused (step.Lacking q name) b)
+  of_words (fault.Steps step.Memory) b = refl
 
 pub plan_of_words_excludes : VisitsAgree → PlanOfWordsExcludesRefusal
 plan_of_words_excludes one w words p e a b = of_words one w words p a e b

@@ -55,7 +55,7 @@ abbrev pub PlanExcludesRefusal : Type 0
 PlanExcludesRefusal = (w : WorkspaceText) (s : SettingsText) (selected : List ℕ) (p : PlanText) (e : StepFault) → IsPlan w s selected p → IsRefused w s selected e → e ≡ step.Memory
 
 abbrev pub PlanOfWordsExcludesRefusal : Type 0
-PlanOfWordsExcludesRefusal = (w : WorkspaceText) (words : WordsText) (p : PlanText) (e : PlanFault) → IsPlanOf w words p → IsRefusal w words e → e ≡ fault.Memory
+PlanOfWordsExcludesRefusal = (w : WorkspaceText) (words : WordsText) (p : PlanText) (e : PlanFault) → IsPlanOf w words p → IsRefusal w words e → e ≡ fault.Steps step.Memory
 
 -- The settings, if the resolver tells sides apart or doesn't.
 abbrev pub with_split : SettingsText → Bool → SettingsText

@@ -5,6 +5,8 @@ use Rattle.plan_rows.specs.declared.side.Side.{Side}
 use Rattle.plan_rows.specs.declared.side.Side.TheVariants as side
 use Rattle.plan_words.specs.declared.fault.WordFault.{WordFault}
 use Rattle.plan_words.specs.declared.fault.WordFault.TheVariants as word
+use Rattle.cargo_plans.specs.plan_steps.declared.fault.StepFault.{StepFault}
+use Rattle.cargo_plans.specs.plan_steps.declared.fault.StepFault.TheVariants as step
 use Rattle.cargo_plans.specs.declared.fault.PlanFault.{PlanFault}
 use Rattle.cargo_plans.specs.declared.fault.PlanFault.TheVariants as fault
 use Rattle.feats_files.specs.Messages.{joined}
@@ -41,11 +43,14 @@ side_word side.Host = codes "host"
 abbrev pub not_on_message : List PackageText → ℕ → Text → Text
 not_on_message packages p side = joined (codes "package " ∷ id_at packages p ∷ codes " isn't built for the " ∷ side ∷ codes ": select a member that depends on it too" ∷ [])
 
-abbrev pub plan_message : List PackageText → PlanFault → Text
-plan_message packages (fault.Words e) = word_message packages e
-plan_message packages (fault.NoTests p) = joined (codes "package " ∷ id_at packages p ∷ codes " isn't a member of the workspace, and its tests need its dependencies for development: leave --tests out" ∷ [])
-plan_message packages (fault.NotOn p side) = not_on_message packages p (side_word side)
-plan_message packages (fault.Lacking p name) =
+abbrev pub step_message : List PackageText → StepFault → Text
+step_message packages (step.NoTests p) = joined (codes "package " ∷ id_at packages p ∷ codes " isn't a member of the workspace, and its tests need its dependencies for development: leave --tests out" ∷ [])
+step_message packages (step.NotOn p side) = not_on_message packages p (side_word side)
+step_message packages (step.Lacking p name) =
     joined (codes "the document has no package for the optional dependency `" ∷ name.now ∷ codes "` of " ∷ id_at packages p
     ∷ codes ": make it by `cargo metadata --format-version 1 --all-features --features WORDS` with the words of the selection" ∷ [])
-plan_message packages fault.Memory = codes "out of memory"
+step_message packages step.Memory = codes "out of memory"
+
+abbrev pub plan_message : List PackageText → PlanFault → Text
+plan_message packages (fault.Words e) = word_message packages e
+plan_message packages (fault.Steps e) = step_message packages e

@@ -4,7 +4,7 @@ ghost use Rattle.cargo_workspaces.specs.WorkspaceView.{workspace_text};
 ghost use Rattle.feats_files.specs.Messages.{IsRefused};
 ghost use Rattle.plan_messages.specs.Messages as spec;
 
-use cargo_plans::{PlanFault, Side, WordFault};
+use cargo_plans::{PlanFault, Side, StepFault, WordFault};
 use cargo_workspaces::Workspace;
 use feats_files::{Fault, id_at, push_escaped, refused};
 use std::alloc::{AllocError, Global};
@@ -163,13 +163,12 @@ fn not_on_refused<'p>(
     )
 }
 
-/// Returns the refusal of a selection that has no plan.
-pub fn plan_refused<'p>(alloc: Global, workspace: &'p Workspace<'_>, fault: PlanFault<'p>) -> Fault
-    ensures { IsRefused (spec.plan_message (workspace_text workspace.now).packages fault.entry) result }
+/// Returns the refusal of a selection that a step refuses.
+fn step_refused<'p>(alloc: Global, workspace: &'p Workspace<'_>, fault: StepFault<'p>) -> Fault
+    ensures { IsRefused (spec.step_message (workspace_text workspace.now).packages fault.entry) result }
 {
     match fault {
-        PlanFault::Words(fault) => selection_refused(alloc, workspace, fault),
-        PlanFault::NoTests { package } => refused(
+        StepFault::NoTests { package } => refused(
             alloc,
             &[
                 "package ",
@@ -177,10 +176,10 @@ pub fn plan_refused<'p>(alloc: Global, workspace: &'p Workspace<'_>, fault: Plan
                 " isn't a member of the workspace, and its tests need its dependencies for development: leave --tests out",
             ],
         ),
-        PlanFault::NotOn { package, side } => {
+        StepFault::NotOn { package, side } => {
             not_on_refused(alloc, workspace, package, side_word(side))
         }
-        PlanFault::Lacking {
+        StepFault::Lacking {
             package,
             dependency,
         } => refused(
@@ -193,6 +192,16 @@ pub fn plan_refused<'p>(alloc: Global, workspace: &'p Workspace<'_>, fault: Plan
                 ": make it by `cargo metadata --format-version 1 --all-features --features WORDS` with the words of the selection",
             ],
         ),
-        PlanFault::Memory => Fault::Memory,
+        StepFault::Memory => Fault::Memory,
+    }
+}
+
+/// Returns the refusal of a selection that has no plan.
+pub fn plan_refused<'p>(alloc: Global, workspace: &'p Workspace<'_>, fault: PlanFault<'p>) -> Fault
+    ensures { IsRefused (spec.plan_message (workspace_text workspace.now).packages fault.entry) result }
+{
+    match fault {
+        PlanFault::Words(fault) => selection_refused(alloc, workspace, fault),
+        PlanFault::Steps(fault) => step_refused(alloc, workspace, fault),
     }
 }

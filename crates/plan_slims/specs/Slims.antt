@@ -1,11 +1,10 @@
 -- The edits of declarations after which a build is smaller.
-use Rattle.std.specs.Prelude.{◌≡◌, ◌⊎◌, ℕ, List, [], Bool, true, false, IsFalse, ◌||◌, length, map, nat_eq, nat_lt}
+use Rattle.std.specs.Prelude.{◌≡◌, ◌⊎◌, ℕ, List, [], Bool, IsFalse, ◌||◌, length, map, nat_eq, nat_lt}
 use Rattle.std.specs.List.{AllByRecursion, filter, list_any}
 use Rattle.cargo_workspaces.specs.Workspaces.{PackageText, WorkspaceText}
 use Rattle.cargo_plans.specs.Plans.{AfterWords, IsPlanOf, WordsText}
-use Rattle.cargo_plans.specs.Refusals.{IsRefusal}
+use Rattle.cargo_plans.specs.Refusals.{IsRefusal, is_memory}
 use Rattle.cargo_plans.specs.declared.fault.PlanFault.{PlanFault}
-use Rattle.cargo_plans.specs.declared.fault.PlanFault.TheVariants as fault
 use Rattle.plan_slims.specs.Losses.{LossesText, losses_of}
 use Rattle.cargo_plans.specs.plan_steps.Plans.{PlanText}
 use Rattle.cargo_plans.specs.plan_units.Units.{UnitText}
@@ -22,10 +21,6 @@ pub record IsCountedIn (packages : List PackageText) (edited : WorkspaceText) (w
   pub plan : PlanText
   pub is_plan : IsPlanOf edited words plan
   pub has_numbers : HasNumbersOf (losses_of packages before plan.units) s
-
-abbrev pub is_memory : PlanFault → Bool
-is_memory fault.Memory = true
-is_memory _ = false
 
 abbrev pub nothing : LossesText
 nothing = record { numbers = []; features = [] }

@@ -13,7 +13,7 @@ ghost use Rattle.plan_slims.specs.SlimViews.{slim_text};
 
 use crate::losses::losses_of;
 use crate::lost::Slim;
-use cargo_plans::{Plan, PlanFault, PlanWords, Unit, plan};
+use cargo_plans::{Plan, PlanFault, PlanWords, StepFault, Unit, plan};
 use cargo_workspaces::{Package, Workspace};
 use plan_rows::Platform;
 use std::alloc::{AllocError, Global};
@@ -82,7 +82,7 @@ fn tried_in<'w, 'v, P: Platform>(
 {
     match plan(alloc, edited, words) {
         Ok(after) => counted_by(alloc, packages, before, edit, after),
-        Err(PlanFault::Memory) => Err(AllocError),
+        Err(PlanFault::Steps(StepFault::Memory)) => Err(AllocError),
         Err(_) => Ok(without_loss(edit)),
     }
 }

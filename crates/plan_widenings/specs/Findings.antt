@@ -1,13 +1,11 @@
 -- Whether a label is on by some words.
-use Rattle.std.specs.Prelude.{ℕ, Bool, true, false, IsFalse, ◌||◌}
+use Rattle.std.specs.Prelude.{ℕ, Bool, IsFalse, ◌||◌}
 use Rattle.feature_labels.specs.Names.{LabelName}
 use Rattle.cargo_workspaces.specs.Workspaces.{Text, WorkspaceText}
 use Rattle.plan_rows.specs.declared.side.Side.TheVariants.{Host, Target}
 use Rattle.cargo_plans.specs.plan_starts.PackageVisits.{PairVisit, is_on}
 use Rattle.cargo_plans.specs.plan_steps.Plans.{PlanText}
 use Rattle.cargo_plans.specs.Plans.{IsPlanOf, WordsText}
-use Rattle.cargo_plans.specs.declared.fault.PlanFault.{PlanFault}
-use Rattle.cargo_plans.specs.declared.fault.PlanFault.TheVariants as fault
 use Rattle.plan_widenings.specs.Widenings.{widened}
 use Rattle.plan_widenings.specs.declared.sides.Sides.{Sides}
 use Rattle.plan_widenings.specs.declared.widening.Widening.TheVariants as widening
@@ -25,11 +23,6 @@ pub record IsOff (w : WorkspaceText) (words : WordsText) (p : ℕ) (label : Labe
   pub plan : PlanText
   pub is_plan : IsPlanOf w words plan
   pub is_off : IsFalse (are_some (sides_of plan.on p label))
-
--- Whether the fault is that of the words, and not one of an allocation.
-abbrev pub is_memory : PlanFault → Bool
-is_memory fault.Memory = true
-is_memory _ = false
 
 -- OFF EVERYWHERE: the label is off in a plan of the words with all widenings together.
 abbrev pub IsOffEverywhere : WorkspaceText → WordsText → (Text → Bool) → ℕ → LabelName → Type 0

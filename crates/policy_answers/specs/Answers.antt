@@ -1,12 +1,11 @@
 -- The answer to a question about a policy.
 use Rattle.std.specs.Prelude.{◌≡◌, ◌⊎◌, Bool, IsFalse, Option, Some}
 use Rattle.cargo_plans.specs.Plans.{AfterWords, WordsText}
-use Rattle.cargo_plans.specs.Refusals.{IsRefusal}
+use Rattle.cargo_plans.specs.Refusals.{IsRefusal, is_memory}
 use Rattle.cargo_plans.specs.declared.fault.PlanFault.{PlanFault}
 use Rattle.cargo_workspaces.specs.Workspaces.{Text, WorkspaceText}
 use Rattle.plan_messages.specs.Messages.{plan_message}
 use Rattle.cargo_plans.specs.plan_steps.Plans.{PlanText}
-use Rattle.plan_widenings.specs.Findings.{is_memory}
 use Rattle.policy_answers.specs.Broken.{IsPolicyText, IsRulesRefusal}
 use Rattle.policy_answers.specs.Questions.{PrintedText, QuestionText}
 use Rattle.policy_answers.specs.Scenes.{AreWideScenes, SceneText, ScenesText, all_words, scene_of, widest_words}

@@ -10,7 +10,7 @@ ghost use Rattle.policy_answers.specs.Answers.{IsUnplanned};
 ghost use Rattle.policy_answers.specs.Scenes as spec;
 ghost use Rattle.policy_answers.specs.inner.WidePlans.{AreWidePlans, IsNoWidePlan};
 
-use cargo_plans::{Plan, PlanFault, PlanWords, plan};
+use cargo_plans::{Plan, PlanFault, PlanWords, StepFault, plan};
 use cargo_workspaces::Workspace;
 use feats_files::Fault;
 use plan_messages::plan_refused;
@@ -89,7 +89,7 @@ fn plan_of_words<'w>(
 {
     match plan(alloc, workspace, words) {
         Ok(plan) => Ok(plan),
-        Err(PlanFault::Memory) => Err(Fault::Memory),
+        Err(PlanFault::Steps(StepFault::Memory)) => Err(Fault::Memory),
         Err(fault) => Err(plan_refused(alloc, workspace, fault)),
     }
 }

@@ -1,17 +1,22 @@
 //! Errors of reading a row file.
 use guppy_packages::RowFault;
 use std::alloc::{AllocError, AllocFailed};
+use thiserror::Error;
 
 /// Reasons why the bytes of a row file aren't a package graph. Lines are counted from 1.
-#[derive(Clone, Copy, PartialEq, Eq, Debug)]
+#[derive(Clone, Copy, PartialEq, Eq, Debug, Error)]
 pub enum RowFileError {
     /// The bytes aren't UTF-8.
+    #[error("not UTF-8")]
     NotText,
     /// The fields of this line aren't those of a row.
+    #[error("line {line}: malformed")]
     Malformed { line: usize },
     /// The row in this line has a fault.
+    #[error("line {line}: {fault}")]
     Row { line: usize, fault: RowFault },
     /// An allocation failed.
+    #[error("out of memory")]
     Memory,
 }
 

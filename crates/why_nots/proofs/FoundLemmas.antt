@@ -7,7 +7,7 @@ use Rattle.std.proofs.lemmas.Bool.{or_parts}
 use Rattle.built_parts.specs.Built.{state_of}
 use Rattle.built_parts.specs.declared.state.PartState.{PartState}
 use Rattle.cargo_plans.specs.Plans.{IsPlanOf, WordsText, settings_by}
-use Rattle.cargo_plans.specs.Refusals.{IsRefusal}
+use Rattle.cargo_plans.specs.Refusals.{IsRefusal, is_memory}
 use Rattle.cargo_plans.specs.declared.fault.PlanFault.{PlanFault}
 use Rattle.cargo_plans.specs.plan_starts.PackageVisits.{is_on}
 use Rattle.cargo_plans.specs.plan_steps.Plans.{PlanText}
@@ -22,7 +22,6 @@ use Rattle.plan_whys.specs.Steps.{SpotText, WhyText}
 use Rattle.plan_whys.specs.Whys.{Answers, AnswersBy, AnswersEachBy}
 use Rattle.plan_whys.specs.declared.steps.Spot.{Spot}
 use Rattle.plan_whys.specs.declared.steps.WhyStep.{WhyStep}
-use Rattle.plan_widenings.specs.Findings.{is_memory}
 use Rattle.plan_widenings.specs.declared.widening.Widening.{Widening}
 use Rattle.why_nots.specs.Answers.{AnswerText, IsAnswer, lacking_in, message_in, message_on, not_planned, off}
 use Rattle.why_nots.specs.PartView.{part_text}

@@ -5,13 +5,13 @@ use Rattle.built_parts.specs.Built.{is_part_built}
 use Rattle.built_parts.specs.Scripts.{lacking_script}
 use Rattle.cargo_plans.specs.plan_steps.Plans.{PlanText}
 use Rattle.cargo_plans.specs.Plans.{IsPlanOf, WordsText}
-use Rattle.cargo_plans.specs.Refusals.{IsRefusal}
+use Rattle.cargo_plans.specs.Refusals.{IsRefusal, is_memory}
 use Rattle.cargo_plans.specs.declared.fault.PlanFault.{PlanFault}
 use Rattle.plan_messages.specs.Messages.{plan_message}
 use Rattle.plan_rows.specs.declared.side.Side.{Side}
 use Rattle.plan_whys.specs.Steps.{WhyText}
 use Rattle.plan_whys.specs.Whys.{AnswersBy}
-use Rattle.plan_widenings.specs.Findings.{IsOff, is_memory}
+use Rattle.plan_widenings.specs.Findings.{IsOff}
 use Rattle.why_lines.specs.Unbuilt.{unbuilt_message}
 use Rattle.why_nots.specs.Parts.{PartText, spot_on}
 use Rattle.why_nots.specs.Standings.{built_on, standing_of, unbuilt_on}

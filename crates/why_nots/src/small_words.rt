@@ -6,7 +6,7 @@ ghost use Rattle.cargo_plans.specs.plan_steps.PlanViews.{plan_text};
 ghost use Rattle.cargo_workspaces.specs.WorkspaceView.{workspace_text};
 ghost use Rattle.plan_platforms.specs.HeldSpecs.{holds_on};
 ghost use Rattle.plan_whys.specs.StepViews.{why_text};
-ghost use Rattle.plan_widenings.specs.Findings.{is_memory};
+ghost use Rattle.cargo_plans.specs.Refusals.{is_memory};
 ghost use Rattle.why_nots.specs.PartView.{part_text};
 ghost use Rattle.why_nots.specs.StandingView.{standing_text};
 ghost use Rattle.why_nots.specs.Standings.{standing_of as standing_in_plan};
@@ -22,7 +22,7 @@ use crate::told::{PartAnswer, Told};
 use crate::tries::tries_of;
 use crate::typed_words::{TypedWords, words_of};
 use built_parts::BuiltParts;
-use cargo_plans::{Plan, PlanFault, PlanWords, plan};
+use cargo_plans::{Plan, PlanFault, PlanWords, StepFault, plan};
 use cargo_workspaces::Workspace;
 use plan_platforms::HeldSpecs;
 use plan_whys::WhyStep;
@@ -56,7 +56,7 @@ fn without_plan(fault: PlanFault<'_>) -> Result<bool, AllocError>
     ensures { IfOk result (λ is. (is ≡ false) × IsFalse (is_memory fault.entry)) }
 {
     match fault {
-        PlanFault::Memory => Err(AllocError),
+        PlanFault::Steps(StepFault::Memory) => Err(AllocError),
         _ => Ok(false),
     }
 }

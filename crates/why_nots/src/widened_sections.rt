@@ -23,7 +23,7 @@ use crate::sections::section_of;
 use crate::small_words::told_each;
 use crate::spots::{first_spots, is_one_on};
 use crate::told::{PartAnswer, Told, with_answers};
-use cargo_plans::{Plan, PlanFault, PlanWords, plan};
+use cargo_plans::{Plan, PlanFault, PlanWords, StepFault, plan};
 use cargo_workspaces::Workspace;
 use feats_words::Format;
 use plan_platforms::HeldSpecs;
@@ -154,7 +154,7 @@ pub(crate) fn widened_sections(
             drop(plan);
             sections
         }
-        Err(PlanFault::Memory) => Err(AllocError),
+        Err(PlanFault::Steps(StepFault::Memory)) => Err(AllocError),
         Err(fault) => unplanned_sections(
             alloc,
             form,

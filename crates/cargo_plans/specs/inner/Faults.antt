@@ -1,7 +1,6 @@
--- The fault of a plan by that of its words or of its steps.
+-- The fault of a plan by that of its words.
 use Rattle.plan_words.specs.declared.fault.WordFault.{WordFault}
 use Rattle.plan_words.specs.declared.fault.WordFault.TheVariants as word
-use Rattle.plan_steps.specs.declared.fault.StepFault.{StepFault}
 use Rattle.plan_steps.specs.declared.fault.StepFault.TheVariants as step
 use Rattle.cargo_plans.specs.declared.fault.PlanFault.{PlanFault}
 use Rattle.cargo_plans.specs.declared.fault.PlanFault.TheVariants as fault
@@ -14,10 +13,4 @@ of_words word.NoMember = fault.Words word.NoMember
 of_words (word.UnknownFeature text) = fault.Words (word.UnknownFeature text)
 of_words (word.NoFeature owner feature) = fault.Words (word.NoFeature owner feature)
 of_words (word.NoDependency owner dependency) = fault.Words (word.NoDependency owner dependency)
-of_words word.Memory = fault.Memory
-
-abbrev pub of_steps : StepFault → PlanFault
-of_steps (step.NoTests p) = fault.NoTests p
-of_steps (step.NotOn p side) = fault.NotOn p side
-of_steps (step.Lacking p name) = fault.Lacking p name
-of_steps step.Memory = fault.Memory
+of_words word.Memory = fault.Steps step.Memory
