@@ -195,7 +195,8 @@ fn built(alloc: Global, graph: &PackageGraph, stamp: u64) -> Result<FeatureGraph
 }
 
 impl FeatureGraphData {
-    /// Returns the feature graph of `graph`, marked with `stamp`. `Memory` is the only error.
+    /// Returns the feature graph of `graph`, marked with `stamp`. `Memory` is the only error: an allocation failed, or the graph is over
+    /// a [limit](../../../docs/DIFFERENCES.md#limits).
     pub fn build(
         alloc: Global,
         graph: &PackageGraph,

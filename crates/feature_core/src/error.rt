@@ -14,7 +14,8 @@ pub enum Error<'a> {
         from: FeatureId<'a>,
         to: FeatureId<'a>,
     },
-    /// An allocation failed, or a number of nodes, edges or links doesn't fit in 32 bits.
+    /// An allocation failed. Of [`build`](crate::FeatureGraphData::build) also: the graph is over a
+    /// [limit](../../../docs/DIFFERENCES.md#limits).
     Memory,
 }
 
