@@ -14,7 +14,8 @@ pub enum RowFault {
     UnknownTarget,
     /// A Dep row whose pair of packages already has a link of another name.
     OtherName,
-    /// An allocation failed, or there are 4294967296 package links or more.
+    /// An allocation failed, or there are more than 4294967295 texts of features and dependencies, or package links, or more than
+    /// 2147483647 packages.
     Memory,
 }
 

@@ -11,7 +11,7 @@ pub enum RowFileError {
     Malformed { line: usize },
     /// The row in this line has a fault.
     Row { line: usize, fault: RowFault },
-    /// An allocation failed.
+    /// An allocation failed, or the number of kept fields, texts, links or packages is over the limit that the call names.
     Memory,
 }
 
