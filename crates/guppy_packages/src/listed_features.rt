@@ -33,6 +33,16 @@ impl<'d> ListedFeatures<'d> {
     {
         ListedFeatures { texts, returned: 0 }
     }
+
+    /// Returns the number of features that are left.
+    fn left(&self) -> usize
+        ensures { result ≡ length self.now }
+    {
+        self.texts
+            .len()
+            .saturating_sub(1)
+            .saturating_sub(self.returned)
+    }
 }
 
 impl<'d> Iterator for ListedFeatures<'d> {
@@ -43,7 +53,7 @@ impl<'d> Iterator for ListedFeatures<'d> {
     ghost remaining = { item_count (λ rest. rest) };
 
     fn next(&mut self) -> Option<&'d str> {
-        if self.len() == 0 {
+        if self.left() == 0 {
             return None;
         }
         let name = self.texts.later(self.returned);
@@ -56,17 +66,14 @@ impl<'d> Iterator for ListedFeatures<'d> {
         ensures upper { IfSome result.1 (UpTo (item_count (λ rest. rest) self.now)) }
         ensures exact { result ≡ (length self.now, Some (length self.now)) }
     {
-        let len = self.len();
-        (len, Some(len))
+        let left = self.left();
+        (left, Some(left))
     }
 }
 
 impl ExactSizeIterator for ListedFeatures<'_> {
     fn len(&self) -> usize {
-        self.texts
-            .len()
-            .saturating_sub(1)
-            .saturating_sub(self.returned)
+        self.left()
     }
 }
 
