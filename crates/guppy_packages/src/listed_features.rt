@@ -53,7 +53,7 @@ impl<'d> Iterator for ListedFeatures<'d> {
     ghost remaining = { item_count (λ rest. rest) };
 
     fn next(&mut self) -> Option<&'d str> {
-        if self.left() == 0 {
+        if self.returned >= self.texts.len().saturating_sub(1) {
             return None;
         }
         let name = self.texts.later(self.returned);
