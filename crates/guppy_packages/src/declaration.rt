@@ -1,11 +1,12 @@
 //! The declaration in a Dep row.
-ghost use Rattle.std.specs.Prelude.{◌≡◌, ◌<◌, ◌∷◌, [], IfOk, Some, length, map, slice_get};
+ghost use Rattle.std.specs.Prelude.{◌≡◌, ◌<◌, ◌∷◌, [], IfOk, Some, length, slice_get};
 ghost use Rattle.std.specs.List.{list_all};
 ghost use Rattle.std.specs.Option.{option_map};
 ghost use Rattle.guppy_packages.specs.Parts.{first_text};
 ghost use Rattle.guppy_packages.specs.Platform.{platform_text, platform_specs};
 ghost use Rattle.guppy_packages.specs.Tables.{is_development};
 
+use crate::listed_features::ListedFeatures;
 use crate::platform::PlatformStatusImpl;
 use crate::row::DependencyKind;
 use crate::text_run::TextRun;
@@ -73,6 +74,13 @@ impl Declaration {
         self.default_features
     }
 
+    /// Returns the features that the declaration lists, in row order.
+    pub fn features(&self) -> ListedFeatures<'_>
+        ensures { result ≡ (declared self.now).features }
+    {
+        ListedFeatures::new(&self.texts)
+    }
+
     /// Returns the number of features that the declaration lists.
     pub fn feature_count(&self) -> usize
         ensures { result ≡ length (declared self.now).features }
@@ -89,22 +97,6 @@ impl Declaration {
     }
 }
 
-/// The features that a declaration lists, as they are printed.
-#[derive(Drop)]
-struct ListedFeatures<'d> {
-    declaration: &'d Declaration,
-}
-
-impl fmt::Debug for ListedFeatures<'_> {
-    fn fmt<W: fmt::Write>(&self, f: &mut fmt::Formatter<W>) -> fmt::Result {
-        let mut list = f.debug_list();
-        for ix in 0..self.declaration.feature_count() {
-            list.entry(&self.declaration.feature(ix));
-        }
-        list.finish()
-    }
-}
-
 impl fmt::Debug for Declaration {
     fn fmt<W: fmt::Write>(&self, f: &mut fmt::Formatter<W>) -> fmt::Result {
         f.debug_struct("Declaration")
@@ -112,7 +104,7 @@ impl fmt::Debug for Declaration {
             .field("optional", &self.optional)
             .field("default_features", &self.default_features)
             .field("platform", self.platform())
-            .field("features", &ListedFeatures { declaration: self })
+            .field("features", &self.features())
             .finish()
     }
 }

@@ -37,8 +37,8 @@ fn begins_and_order(
 
 impl PackageGraph {
     /// Returns the graph of `rows`, or the first fault. Faults of rows by themselves precede those among all packages. `Memory`
-    /// is returned when an allocation fails, or if the texts of features and dependencies are more than 4294967295 or longer than as
-    /// many bytes.
+    /// is returned when an allocation fails, or if there are more than 4294967295 texts of features and dependencies, or package
+    /// links, or more than 2147483647 packages ([limits](../../../docs/DIFFERENCES.md#limits)).
     pub fn from_rows(alloc: Global, rows: &[Row]) -> Result<PackageGraph, RowError>
         ensures tables { Reads (λ graph. graph) result (tables_of (map row_text rows.now)) }
         ensures row { IfErr result (NamesRow rows.now) }
@@ -55,7 +55,8 @@ impl PackageGraph {
         Ok(PackageGraph::from_tables(alloc, tables)?)
     }
 
-    /// Returns the graph of `tables`, with the packages in order. `AllocError` is the only error.
+    /// Returns the graph of `tables`, with the packages in order. Returns `AllocError` if an allocation fails, or if there are more than
+    /// 2147483647 packages ([limits](../../../docs/DIFFERENCES.md#limits)).
     pub fn from_tables(alloc: Global, tables: PackageTables) -> Result<PackageGraph, AllocError>
         ensures { IfOk result (λ graph. graph ≡ tables) }
     {

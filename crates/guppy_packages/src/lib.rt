@@ -9,6 +9,7 @@ mod first_pass;
 mod from_rows;
 pub mod laws;
 mod link_begins;
+mod listed_features;
 mod name_set;
 mod named_feature;
 mod named_feature_dep;
@@ -35,6 +36,7 @@ mod text_run;
 
 pub use declaration::Declaration;
 pub use direction::DependencyDirection;
+pub use listed_features::ListedFeatures;
 pub use named_feature::NamedFeature;
 pub use named_feature_dep::NamedFeatureDep;
 pub use package_graph::PackageGraph;

@@ -59,8 +59,8 @@ fn take_tables<S: RowSource>(
 
 impl PackageTables {
     /// Returns the tables of the rows of `source`, or the first fault. Faults of rows by themselves precede those among all packages.
-    /// `Memory` is returned when an allocation fails, or if the texts of features and dependencies are more than 4294967295 or longer
-    /// than as many bytes. Each row is requested at most four times.
+    /// `Memory` is returned when an allocation fails, or if there are more than 4294967295 texts of features and dependencies, or package
+    /// links ([limits](../../../docs/DIFFERENCES.md#limits)). Each row is requested at most four times.
     pub fn from_source<S: RowSource>(alloc: Global, source: &S) -> Result<PackageTables, RowError>
         ensures tables { Reads (λ tables. tables) result (tables_of (S.rows source.now)) }
         ensures row { IfErr result (NamesRow (S.rows source.now)) }

@@ -20,7 +20,7 @@ pub enum RowFault {
     /// A Dep row whose pair of packages already has a link of another name.
     #[error("other name")]
     OtherName,
-    /// An allocation failed, or there are 4294967296 package links or more.
+    /// An allocation failed, or the rows are over a [limit](../../../docs/DIFFERENCES.md#limits).
     #[error("out of memory")]
     Memory,
 }

@@ -14,19 +14,18 @@ use crate::text_list::TextList;
 use std::alloc::{AllocError, Global};
 use std::rc::Rc;
 
-/// Appends `added` to `text`, and its end in `text` to `ends`. Returns `AllocError` if an allocation fails or the end doesn't fit in
-/// 32 bits.
+/// Appends `added` to `text`, and its end in `text` to `ends`. `AllocError` is the only error.
 #[inline]
-fn push_text(text: &mut String, ends: &mut Vec<u32>, added: &str) -> Result<(), AllocError>
+fn push_text(text: &mut String, ends: &mut Vec<usize>, added: &str) -> Result<(), AllocError>
     ensures { OnOk result ((before : List Text) → IsPushed before (string_bytes text.old) ends.old.items → IsPushed (before ++ added.now ∷ []) (string_bytes text.new) ends.new.items) }
 {
     text.push_str(added)?;
-    push_to(ends, narrow(text.as_str().len())?)?;
+    push_to(ends, text.as_str().len())?;
     Ok(())
 }
 
-/// Appends each of `added`. The errors are those of `push_text`.
-fn push_texts(text: &mut String, ends: &mut Vec<u32>, added: &[&str]) -> Result<(), AllocError>
+/// Appends each of `added`. `AllocError` is the only error.
+fn push_texts(text: &mut String, ends: &mut Vec<usize>, added: &[&str]) -> Result<(), AllocError>
     ensures { OnOk result ((before : List Text) → IsPushed before (string_bytes text.old) ends.old.items → IsPushed (before ++ texts added.now) (string_bytes text.new) ends.new.items) }
 {
     for item in added {
@@ -35,8 +34,8 @@ fn push_texts(text: &mut String, ends: &mut Vec<u32>, added: &[&str]) -> Result<
     Ok(())
 }
 
-/// Appends the name in `row` and the features or items that it lists. The errors are those of `push_text`.
-fn push_names(text: &mut String, ends: &mut Vec<u32>, row: Row) -> Result<(), AllocError>
+/// Appends the name in `row` and the features or items that it lists. `AllocError` is the only error.
+fn push_names(text: &mut String, ends: &mut Vec<usize>, row: Row) -> Result<(), AllocError>
     ensures { OnOk result ((before : List Text) → IsPushed before (string_bytes text.old) ends.old.items → IsPushed (before ++ row_texts (row_text row.entry)) (string_bytes text.new) ends.new.items) }
 {
     let (name, others) = match row {
@@ -60,10 +59,10 @@ pub(crate) fn next_name(at: usize, row: Row) -> Result<usize, AllocError>
     Ok(narrow(at.saturating_add(count))? as usize)
 }
 
-/// Appends the names of all rows, in row order. The errors are those of `push_text`.
+/// Appends the names of all rows, in row order. `AllocError` is the only error.
 fn push_rows<S: RowSource>(
     text: &mut String,
-    ends: &mut Vec<u32>,
+    ends: &mut Vec<usize>,
     source: &S,
 ) -> Result<(), AllocError>
     requires text { string_bytes text.old ≡ [] }
@@ -77,7 +76,7 @@ fn push_rows<S: RowSource>(
 }
 
 /// Returns the list of the texts that end at `ends`, one after the other in `text`, without spare capacity.
-fn trimmed(text: String, ends: Vec<u32>) -> TextList
+fn trimmed(text: String, ends: Vec<usize>) -> TextList
     requires { AreEnds 0 ends.items (string_bytes text) }
     ensures { result ≡ parts 0 ends.items (string_bytes text) }
 {
@@ -88,8 +87,7 @@ fn trimmed(text: String, ends: Vec<u32>) -> TextList
     TextList::new(text, ends)
 }
 
-/// Returns the names of all rows, in row order. Returns `AllocError` if an allocation fails, or if the names are longer than 4294967295
-/// bytes.
+/// Returns the names of all rows, in row order. `AllocError` is the only error.
 pub(crate) fn stored_texts<S: RowSource>(
     alloc: Global,
     source: &S,

@@ -1,9 +1,7 @@
 //! What declarations share: platforms.
-ghost use Rattle.std.specs.Prelude.{◌≡◌, ◌<◌, ◌∷◌, [], IfOk, Some, drop, length, map};
+ghost use Rattle.std.specs.Prelude.{◌≡◌, ◌<◌, ◌∷◌, [], IfOk, Some, drop, length};
 ghost use Rattle.std.specs.Option.{option_map};
-ghost use Rattle.std.specs.String.{string_bytes};
 ghost use Rattle.guppy_packages.specs.Platform.{platform_specs, platform_text};
-ghost use Rattle.guppy_packages.specs.Rows.{texts};
 ghost use Rattle.guppy_packages.specs.Stored.{declared};
 ghost use Rattle.guppy_packages.specs.declared.platform.PlatformStatusImpl.TheVariants.{Always};
 ghost use Rattle.guppy_packages.specs.inner.SpecPlatforms.{AreOfSpecs};

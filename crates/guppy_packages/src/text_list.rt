@@ -10,7 +10,7 @@ use std::marker::Model;
 pub(crate) struct TextList {
     text: String,
     // the end of each text
-    ends: Vec<u32>,
+    ends: Vec<usize>,
 }
 
 impl Model for TextList {
@@ -28,28 +28,28 @@ impl Model for TextList {
 
 /// Returns the start of text `at`.
 #[inline(always)]
-fn start(ends: &[u32], at: usize) -> usize
+fn start(ends: &[usize], at: usize) -> usize
     requires { at ≤ length ends.now }
     ensures { result ≡ slice_index (0 ∷ ends.now) at }
 {
     if at == 0 {
         return 0;
     }
-    ends[at - 1] as usize
+    ends[at - 1]
 }
 
 /// Returns the end of text `at`.
 #[inline(always)]
-fn end(ends: &[u32], at: usize) -> usize
+fn end(ends: &[usize], at: usize) -> usize
     requires { at < length ends.now }
     ensures { result ≡ slice_index ends.now at }
 {
-    ends[at] as usize
+    ends[at]
 }
 
 /// Returns text `at` of those that end at `ends`, one after the other in `text`.
 #[inline(always)]
-fn part<'t>(text: &'t str, ends: &[u32], at: usize) -> &'t str
+fn part<'t>(text: &'t str, ends: &[usize], at: usize) -> &'t str
     requires within { at < length ends.now }
     requires cut { AreEnds 0 ends.now text.now }
     ensures { slice_get (parts 0 ends.now text.now) at ≡ Some result.now }
@@ -61,7 +61,7 @@ fn part<'t>(text: &'t str, ends: &[u32], at: usize) -> &'t str
 
 impl TextList {
     /// Returns the list of the texts that end at `ends`, one after the other in `text`.
-    pub(crate) fn new(text: String, ends: Vec<u32>) -> TextList
+    pub(crate) fn new(text: String, ends: Vec<usize>) -> TextList
         requires { AreEnds 0 ends.items (string_bytes text) }
         ensures { result ≡ parts 0 ends.items (string_bytes text) }
     {

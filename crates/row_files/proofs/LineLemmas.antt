@@ -1,14 +1,13 @@
 -- Appending a line keeps the lines before it.
-use Rattle.std.proofs.Common.{is_none, ◌≡◌, ℕ, ◌-◌, ◌≤◌, ◌++◌, List, [], ◌∷◌, Bool, true, false, length, get_or, take, drop, sym, ap, ◌∙◌, refl, arith, cond, suc, zero}
-use Rattle.std.proofs.lemmas.List.{length-append, map-append, take-append-drop, take-append-le, drop-append-le}
+use Rattle.std.proofs.Common.{is_none, ◌≡◌, ℕ, ◌-◌, ◌≤◌, ◌++◌, List, [], ◌∷◌, length, take, drop, ap, ◌∙◌, refl, arith}
+use Rattle.std.proofs.lemmas.List.{length-append, take-append-le, drop-append-le}
 use Rattle.std.proofs.lemmas.Grind.{common_steps}
 use Rattle.std.proofs.Math.Seq.{drop-append_seam, take-length}
-use Rattle.std.specs.List.{slice_range, All}
-use Rattle.std.specs.Borrow.{Bor}
-use Rattle.guppy_packages.specs.Rows.{Text, texts}
-use Rattle.row_files.specs.Forms.{fields_of, line_text, line_texts}
+use Rattle.std.specs.List.{slice_range}
+use Rattle.guppy_packages.specs.Rows.{Text}
+use Rattle.row_files.specs.Forms.{fields_of, line_texts}
 use Rattle.row_files.specs.RowOfLine.{row_of}
-use Rattle.row_files.specs.inner.KeptFields.{IsKept, form_row, is_malformed}
+use Rattle.row_files.specs.inner.KeptFields.{AreKept, IsKept, form_row, is_malformed}
 use Rattle.row_files.specs.declared.line.Line.{Line}
 use Rattle.row_files.specs.declared.line.Form.{Form}
 
@@ -25,57 +24,40 @@ range-added fields more =
     let long : length (fields ++ more) - length fields ≡ length more = grind (arith, common_steps) in
     rw (drop-append_seam fields more, long) (take-length more)
 
--- Lines keep their fields when fields are appended.
-lines_kept : (kept more : List Text) (lines : List Line) → All (IsKept kept) lines → line_texts (kept ++ more) lines ≡ line_texts kept lines
-lines_kept kept more [] each = refl
-lines_kept kept more (line ∷ lines) each =
-    let first : IsKept kept line = each 0 line (omega arith) in
-    let rest : All (IsKept kept) lines = λ k d h. each (suc k) d (omega arith) in
-    ap (λ r. (line.number, fields_of line.form r) ∷ line_texts (kept ++ more) lines) (range-append kept more line.start line.end first.ordered first.within)
-    ∙ ap (λ r. line_text kept line ∷ r) (lines_kept kept more lines rest)
-
-pub longer : (kept more : List Text) (lines : List Line) → All (IsKept kept) lines → All (IsKept (kept ++ more)) lines
-longer kept more lines each k d h =
-    let one = each k d h in
-    let line = get_or lines k d in
-    let same = range-append kept more line.start line.end one.ordered one.within in
-    record {
-      ordered = one.ordered;
-      within = omega (arith, one.within, length-append kept more);
-      row = rw same one.row;
-      known = rw same one.known;
-    }
-
-one_more : (P : Line → Type 0) (lines : List Line) (line : Line) → P line → All P lines → All P (lines ++ line ∷ [])
-one_more P [] line last each zero d h = last
-one_more P [] line last each (suc k) d h = absurd (omega arith)
-one_more P (x ∷ xs) line last each zero d h = each 0 d (omega arith)
-one_more P (x ∷ xs) line last each (suc k) d h = one_more P xs line last (λ j e g. each (suc j) e (omega arith)) k d (omega arith)
-
 -- A line of this form is appended, with `more` as its kept fields.
-module _ (kept more : List Text) (lines : List Line) (each : All (IsKept kept) lines) (n start end : ℕ) (form : Form) (starts : start ≡ length kept) (ends : end ≡ length (kept ++ more)) where
-  added : slice_range (kept ++ more) start end ≡ more
-  added = rw (starts, ends) (range-added kept more)
+module _ (kept more : List Text) (n : ℕ) (form : Form) (row : form_row form more ≡ row_of (fields_of form more)) (known : is_none (form_row form more) ≡ is_malformed form) where
+  abbrev last : Line
+  last = record { number = n; end = length (kept ++ more); form = form }
 
-  pub line_pushed : line_texts (kept ++ more) (lines ++ record { number = n; start = start; end = end; form = form } ∷ []) ≡ line_texts kept lines ++ (n, fields_of form more) ∷ []
-  line_pushed =
-      map-append (line_text (kept ++ more)) lines _ ∙ ap (λ r. line_texts (kept ++ more) lines ++ (n, fields_of form r) ∷ []) added
-      ∙ ap (λ l. l ++ (n, fields_of form more) ∷ []) (lines_kept kept more lines each)
-
-  -- Appending a line, if the push succeeded.
-  pub one_more_if : (b : Bool) → form_row form more ≡ row_of (fields_of form more) → is_none (form_row form more) ≡ is_malformed form
-      → All (IsKept (kept ++ more)) (cond b (lines ++ record { number = n; start = start; end = end; form = form } ∷ []) lines)
-  one_more_if true row known =
-      let last : IsKept (kept ++ more) (record { number = n; start = start; end = end; form = form }) = record {
-        ordered = omega (arith, starts, ends, length-append kept more);
-        within = omega (arith, ends);
+  -- `start` is the end of the kept fields so far.
+  last_kept : (start : ℕ) → start ≡ length kept → IsKept (kept ++ more) start last × (slice_range (kept ++ more) start (length (kept ++ more)) ≡ more)
+  last_kept start is =
+      let added : slice_range (kept ++ more) start (length (kept ++ more)) ≡ more = rw is (range-added kept more) in
+      let line : IsKept (kept ++ more) start last = record {
+        ordered = omega (arith, is, length-append kept more);
+        within = omega arith;
         row = rw added row;
         known = rw added known;
       } in
-      one_more (IsKept (kept ++ more)) lines _ last (longer kept more lines each)
-  one_more_if false row known = longer kept more lines each
+      (line, added)
 
--- A longer list begins with the texts of the shorter one.
-pub begins_with : (old new : List (Bor Text)) → take (length old) new ≡ old → texts new ≡ texts old ++ texts (drop (length old) new)
-begins_with old new e =
-    ap texts (sym (take-append-drop (length old) new)) ∙ map-append (λ t. t.now) (take (length old) new) (drop (length old) new) ∙ ap (λ l. texts l ++ texts (drop (length old) new)) e
+  -- A line before it.
+  earlier : (start : ℕ) (line : Line) → IsKept kept start line → IsKept (kept ++ more) start line
+  earlier start line is =
+      let same = range-append kept more start line.end is.ordered is.within in
+      record {
+        ordered = is.ordered;
+        within = omega (arith, is.within, length-append kept more);
+        row = rw same is.row;
+        known = rw same is.known;
+      }
+
+  pub lines_pushed : (start : ℕ) (lines : List Line) → AreKept kept start lines → AreKept (kept ++ more) start (lines ++ last ∷ [])
+  lines_pushed start [] is = ((last_kept start is).0, refl)
+  lines_pushed start (line ∷ lines) each = (earlier start line each.0, lines_pushed line.end lines each.1)
+
+  pub texts_pushed : (start : ℕ) (lines : List Line) → AreKept kept start lines → line_texts (kept ++ more) start (lines ++ last ∷ []) ≡ line_texts kept start lines ++ (n, fields_of form more) ∷ []
+  texts_pushed start [] is = ap (λ r. (n, fields_of form r) ∷ []) (last_kept start is).1
+  texts_pushed start (line ∷ lines) each =
+      ap (λ r. (line.number, fields_of line.form r) ∷ line_texts (kept ++ more) line.end (lines ++ last ∷ [])) (range-append kept more start line.end each.0.ordered each.0.within)
+      ∙ ap (λ r. (line.number, fields_of line.form (slice_range kept start line.end)) ∷ r) (texts_pushed line.end lines each.1)

@@ -1,5 +1,5 @@
 -- The forms of lines: the fields of a line are determined by its form and its kept fields.
-use Rattle.std.specs.Prelude.{ℕ, List, [], ◌∷◌, Bool, true, false, codes, map}
+use Rattle.std.specs.Prelude.{ℕ, List, [], ◌∷◌, Bool, true, false, codes}
 use Rattle.std.specs.List.{slice_range}
 use Rattle.guppy_packages.specs.Rows.{Text}
 use Rattle.guppy_packages.specs.declared.row.DependencyKind.{DependencyKind}
@@ -29,9 +29,8 @@ fields_of (form.PlatformDep kind optional defaults) (name ∷ target ∷ platfor
     codes "dep" ∷ name ∷ target ∷ kind_word kind ∷ word_of (codes "optional") (codes "required") optional ∷ platform ∷ word_of (codes "default") (codes "nodefault") defaults ∷ features
 fields_of _ _ = []
 
--- The number and all fields of a line, from the list of kept fields of all lines.
-abbrev pub line_text : List Text → Line → ℕ × List Text
-line_text kept line = (line.number, fields_of line.form (slice_range kept line.start line.end))
-
-abbrev pub line_texts : List Text → List Line → List (ℕ × List Text)
-line_texts kept = map (line_text kept)
+-- The number and all fields of each line, from the list of kept fields of all lines. Those of the first line begin at `start`, and those
+-- of each other where those of the line before it end.
+abbrev pub line_texts : List Text → ℕ → List Line → List (ℕ × List Text)
+line_texts kept start [] = []
+line_texts kept start (line ∷ lines) = (line.number, fields_of line.form (slice_range kept start line.end)) ∷ line_texts kept line.end lines

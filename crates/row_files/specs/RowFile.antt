@@ -17,7 +17,7 @@ use Rattle.row_files.specs.FirstFault.{each_or}
 
 -- The lines that aren't skipped, each as its number and its fields.
 abbrev pub lines_of : Lines → List (ℕ × List Text)
-lines_of lines = line_texts (texts lines.kept.items) lines.lines.items
+lines_of lines = line_texts (texts lines.kept.items) 0 lines.lines.items
 
 -- The rows of the lines, or the first malformed line.
 abbrev pub rows_of : List (ℕ × List Text) → Result (List RowText) RowFileError

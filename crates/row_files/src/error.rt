@@ -15,7 +15,7 @@ pub enum RowFileError {
     /// The row in this line has a fault.
     #[error("line {line}: {fault}")]
     Row { line: usize, fault: RowFault },
-    /// An allocation failed.
+    /// An allocation failed, or the lines are over a [limit](../../../docs/DIFFERENCES.md#limits).
     #[error("out of memory")]
     Memory,
 }

@@ -41,11 +41,11 @@ impl Form {
     }
 }
 
-/// A line that isn't skipped: its number, and the range of its kept fields in the list for all lines.
+/// A line that isn't skipped: its number, and the end of its kept fields in the list for all lines. They begin where those of the line
+/// before it end.
 #[derive(Clone, Copy)]
 pub struct Line {
-    pub(crate) number: u32,
-    pub(crate) start: u32,
+    pub(crate) number: usize,
     pub(crate) end: u32,
     pub(crate) form: Form,
 }
@@ -54,22 +54,15 @@ pub struct Line {
 const LAST: usize = 4294967295;
 
 impl Line {
-    /// Returns line `number`, whose kept fields are those from `start` to `end`. Returns `AllocError` if one of these numbers doesn't
-    /// fit in 32 bits.
-    pub(crate) fn new(
-        number: usize,
-        start: usize,
-        end: usize,
-        form: Form,
-    ) -> Result<Line, AllocError>
-        ensures { IfOk result (λ line. line ≡ record { number = number; start = start; end = end; form = form }) }
+    /// Returns line `number`, whose kept fields end at `end`. Returns `AllocError` if `end` is over 4294967295.
+    pub(crate) fn new(number: usize, end: usize, form: Form) -> Result<Line, AllocError>
+        ensures { IfOk result (λ line. line ≡ record { number = number; end = end; form = form }) }
     {
-        if number > LAST || start > LAST || end > LAST {
+        if end > LAST {
             return Err(AllocError);
         }
         Ok(Line {
-            number: number as u32,
-            start: start as u32,
+            number,
             end: end as u32,
             form,
         })

@@ -1,12 +1,12 @@
 //! The lines of a text and their fields.
-ghost use Rattle.std.specs.Prelude.{◌≡◌, ◌+◌, ◌<◌, ◌≤◌, ◌^◌, ◌++◌, [], ◌∷◌, if◌then◌else◌, length, IfOk, OnOk, All};
+ghost use Rattle.std.specs.Prelude.{◌≡◌, ◌+◌, ◌<◌, ◌≤◌, ◌^◌, ◌++◌, [], ◌∷◌, if◌then◌else◌, length, map, slice_index, take, IfOk, OnErr, OnOk};
 ghost use Rattle.guppy_packages.specs.Rows.{texts};
-ghost use Rattle.row_files.specs.inner.KeptFields.{IsKept};
+ghost use Rattle.row_files.specs.inner.KeptFields.{AreKept, kept_of};
 
 use crate::cuts::skips;
 use crate::form::form_of;
 use crate::keeping::keep;
-use crate::line::Line;
+use crate::line::{Form, Line};
 use memchr::memchr2_iter;
 use std::alloc::{AllocError, Global};
 
@@ -15,7 +15,41 @@ use std::alloc::{AllocError, Global};
 pub struct Lines<'t> {
     pub(crate) kept: Vec<&'t str>,
     pub(crate) lines: Vec<Line>,
-    ghost each_kept: { All (IsKept (texts kept.items)) lines.items },
+    ghost each_kept: { AreKept (texts kept.items) 0 lines.items },
+}
+
+/// Appends the kept fields of a line of this form, and the line. Returns `AllocError` if an allocation fails, or if the number of all
+/// kept fields is over 4294967295. Fields may be appended even then, but no line.
+fn push_line<'t>(
+    kept: &mut Vec<&'t str>,
+    lines: &mut Vec<Line>,
+    number: usize,
+    form: Form,
+    fields: &[&'t str],
+) -> Result<(), AllocError>
+    ensures added { OnOk result (texts kept.new.items ≡ texts kept.old.items ++ kept_of form (texts fields.now)) }
+    ensures line { OnOk result (lines.new.items ≡ lines.old.items ++ record { number = number; end = length (texts kept.new.items); form = form } ∷ []) }
+    ensures grows { take (length kept.old.items) kept.new.items ≡ kept.old.items }
+    ensures none { OnErr result (lines.new.items ≡ lines.old.items) }
+{
+    keep(kept, form, fields)?;
+    let line = Line::new(number, kept.len(), form)?;
+    match lines.push(line) {
+        Ok(()) => Ok(()),
+        Err(_) => Err(AllocError),
+    }
+}
+
+/// Returns the start of the kept fields of the line at place `at`.
+#[inline(always)]
+pub(crate) fn start(lines: &[Line], at: usize) -> usize
+    requires { at ≤ length lines.now }
+    ensures { result ≡ slice_index (0 ∷ map (λ line. line.end) lines.now) at }
+{
+    if at == 0 {
+        return 0;
+    }
+    lines[at - 1].end as usize
 }
 
 impl<'t> Lines<'t> {
@@ -26,18 +60,19 @@ impl<'t> Lines<'t> {
     ghost use Rattle.row_files.specs.RowFile.{line_of, lines_of};
     ghost use Rattle.row_files.specs.inner.CutLines.{kept_line};
 
-    /// Appends a line. Returns `AllocError` if an allocation fails, or if the line's number or the number of all kept fields is over
-    /// 4294967295.
+    /// Appends a line. Returns `AllocError` if an allocation fails, or if the number of all kept fields is over 4294967295. Then the lines
+    /// are unchanged.
     fn push(&mut self, number: usize, fields: &[&'t str]) -> Result<(), AllocError>
         ensures { OnOk result (lines_of self.new ≡ lines_of self.old ++ (number, texts fields.now) ∷ []) }
     {
         let form = form_of(fields);
         let start = self.kept.len();
-        keep(&mut self.kept, form, fields)?;
-        let line = Line::new(number, start, self.kept.len(), form)?;
-        match self.lines.push(line) {
+        match push_line(&mut self.kept, &mut self.lines, number, form, fields) {
             Ok(()) => Ok(()),
-            Err(_) => Err(AllocError),
+            Err(error) => {
+                self.kept.truncate(start);
+                Err(error)
+            }
         }
     }
 
@@ -76,8 +111,9 @@ impl<'t> Lines<'t> {
         Ok(number)
     }
 
-    /// Splits `text` into lines and fields, without the lines that are skipped. Returns `AllocError`
-    /// if an allocation fails.
+    /// Splits `text` into lines and fields, without the lines that are skipped. Returns `AllocError` if an allocation fails, or if the
+    /// number of all kept fields is over 4294967295. Kept are the ids, names, targets, items, specs and listed features of rows, and all
+    /// fields of lines that are no rows ([limits](../../../docs/DIFFERENCES.md#limits)).
     pub fn of(alloc: Global, text: &'t str) -> Result<Self, AllocError>
         ensures { IfOk result (λ l. lines_of l ≡ kept_lines 1 (lines_in text.now)) }
     {
@@ -118,6 +154,6 @@ impl<'t> Lines<'t> {
         requires { at < length (lines_of self.now) }
         ensures { result ≡ line_of (lines_of self.now) at }
     {
-        self.lines[at].number as usize
+        self.lines[at].number
     }
 }

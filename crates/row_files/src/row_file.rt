@@ -10,7 +10,7 @@ use guppy_packages::{PackageGraph, PackageTables, RowFault};
 use std::alloc::{AllocError, Global};
 
 /// Returns the tables of `lines`. Returns `Malformed` for the first malformed line. If there is none, returns `Row` for the first fault
-/// of the rows. Returns `Memory` if an allocation fails.
+/// of the rows. Returns `Memory` if [`PackageTables::from_source`] does ([limits](../../../docs/DIFFERENCES.md#limits)).
 pub fn tables_of_lines(alloc: Global, lines: &Lines) -> Result<PackageTables, RowFileError>
     ensures { Gives (λ tables. tables) result (tables_of_lines (lines_of lines.now)) }
 {
@@ -27,7 +27,7 @@ pub fn tables_of_lines(alloc: Global, lines: &Lines) -> Result<PackageTables, Ro
     }
 }
 
-/// Builds the package graph of `lines`. The errors are those of [`tables_of_lines`].
+/// Builds the package graph of `lines`. The errors are those of [`tables_of_lines`] and of [`PackageGraph::from_tables`].
 pub fn graph_of_lines(alloc: Global, lines: &Lines) -> Result<PackageGraph, RowFileError>
     ensures { Gives (λ graph. graph) result (tables_of_lines (lines_of lines.now)) }
 {
@@ -35,8 +35,8 @@ pub fn graph_of_lines(alloc: Global, lines: &Lines) -> Result<PackageGraph, RowF
     Ok(PackageGraph::from_tables(alloc, tables)?)
 }
 
-/// Returns the tables of a row file's bytes. Returns `NotText` if they aren't UTF-8, and otherwise the errors of [`tables_of_lines`].
-/// [`PackageGraph::from_tables`] makes the graph of the tables; the bytes can be dropped before.
+/// Returns the tables of a row file's bytes. Returns `NotText` if they aren't UTF-8, `Memory` if [`Lines::of`] fails, and otherwise the
+/// errors of [`tables_of_lines`]. [`PackageGraph::from_tables`] makes the graph of the tables; the bytes can be dropped before.
 pub fn tables_of(alloc: Global, bytes: &[u8]) -> Result<PackageTables, RowFileError>
     ensures { Gives (λ tables. tables) result (tables_in bytes.now) }
 {
@@ -47,7 +47,7 @@ pub fn tables_of(alloc: Global, bytes: &[u8]) -> Result<PackageTables, RowFileEr
     tables_of_lines(alloc, &lines)
 }
 
-/// Builds the package graph of a row file's bytes. The errors are those of [`tables_of`].
+/// Builds the package graph of a row file's bytes. The errors are those of [`tables_of`] and of [`PackageGraph::from_tables`].
 pub fn graph_of(alloc: Global, bytes: &[u8]) -> Result<PackageGraph, RowFileError>
     ensures { Gives (λ graph. graph) result (tables_in bytes.now) }
 {

@@ -9,7 +9,7 @@ ghost use Rattle.row_files.specs.WellFormed.{AreWellFormed, rows_in};
 
 use crate::error::RowFileError;
 use crate::line::Form;
-use crate::lines::Lines;
+use crate::lines::{Lines, start};
 use guppy_packages::{DependencyKind, Row, RowSource};
 
 /// Returns the row of a dependency on every platform, from its kept fields.
@@ -100,10 +100,8 @@ fn row_at<'l>(lines: &'l Lines<'_>, at: usize) -> Row<'l>
     ensures { option_map (λ line. row_of line.1) (slice_get (lines_of lines.now) at) ≡ Some (Some (row_text result)) }
 {
     let line = lines.lines[at];
-    row(
-        line.form,
-        &lines.kept[line.start as usize..line.end as usize],
-    )
+    let start = start(&lines.lines, at);
+    row(line.form, &lines.kept[start..line.end as usize])
 }
 
 /// The rows of lines that are all well-formed. Each row is made when it is read.

@@ -1,5 +1,5 @@
 -- The kept fields of a line, and the row that they determine.
-use Rattle.std.specs.Prelude.{◌≡◌, ◌≤◌, List, [], ◌∷◌, Bool, true, false, Option, None, Some, is_none, length}
+use Rattle.std.specs.Prelude.{◌≡◌, ℕ, ◌≤◌, List, [], ◌∷◌, Bool, true, false, Option, None, Some, is_none, length}
 use Rattle.std.specs.List.{slice_range}
 use Rattle.guppy_packages.specs.Rows.{Text, RowText, a_package, a_feature, a_dep}
 use Rattle.guppy_packages.specs.declared.row.DependencyKind.{DependencyKind}
@@ -52,9 +52,14 @@ abbrev pub is_malformed : Form → Bool
 is_malformed form.Malformed = true
 is_malformed _ = false
 
--- The line's kept fields are a range of `kept`, and determine the row of the line's fields.
-pub record IsKept (kept : List Text) (line : Line) : Type 0 where
-  pub ordered : line.start ≤ line.end
+-- The line's kept fields are a range of `kept` that begins at `start`, and determine the row of the line's fields.
+pub record IsKept (kept : List Text) (start : ℕ) (line : Line) : Type 0 where
+  pub ordered : start ≤ line.end
   pub within : line.end ≤ length kept
-  pub row : form_row line.form (slice_range kept line.start line.end) ≡ row_of (fields_of line.form (slice_range kept line.start line.end))
-  pub known : is_none (form_row line.form (slice_range kept line.start line.end)) ≡ is_malformed line.form
+  pub row : form_row line.form (slice_range kept start line.end) ≡ row_of (fields_of line.form (slice_range kept start line.end))
+  pub known : is_none (form_row line.form (slice_range kept start line.end)) ≡ is_malformed line.form
+
+-- The kept fields of the lines are those of `kept` from `start` on, one line's after the other's.
+abbrev pub AreKept : List Text → ℕ → List Line → Type 0
+AreKept kept start [] = start ≡ length kept
+AreKept kept start (line ∷ lines) = IsKept kept start line × AreKept kept line.end lines
