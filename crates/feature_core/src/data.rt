@@ -140,9 +140,10 @@ fn found_with(alloc: Global, numbers: Numbers<'_>, table: &EdgeTable) -> Result<
     ensures order { IfOk result (λ f. IsOrderOf table.now.digraph f.order) }
     ensures cyclic { IfOk result (λ f. f.cyclic.items ≡ cyclic_components table.now.digraph.edges f.order) }
 {
-    let defaults = default_marks(alloc, numbers, table)?;
-    let released = release_table(alloc, &table.edges, &table.weak)?;
+    // The order comes first: no other takes as much memory while it is made.
     let (order, cyclic) = ordered(alloc, &table.digraph)?;
+    let released = release_table(alloc, &table.edges, &table.weak)?;
+    let defaults = default_marks(alloc, numbers, table)?;
     Ok(Found {
         defaults,
         released,

@@ -2,6 +2,7 @@
 ghost use Rattle.std.specs.Prelude.{◌≡◌, ◌∷◌, [], IfOk};
 ghost use Rattle.guppy_packages.specs.Platform.{always_status, impl_status, never_status, status_of};
 ghost use Rattle.guppy_packages.specs.Stored.{declared};
+ghost use Rattle.feature_labels.specs.declared.link_declarations.LinkDeclarations.TheVariants.{Unsplit, Required, Optional};
 ghost use Rattle.feature_links.specs.Values.{held_status, statuses_of};
 ghost use Rattle.feature_links.specs.inner.Collected.{statuses_over};
 ghost use Rattle.feature_links.specs.inner.Shared.{AreShared, kind_over};
@@ -153,9 +154,9 @@ pub struct SharedStatuses {
     unsplit: KindShares,
     required: KindShares,
     optional: KindShares,
-    ghost unsplit_is: { AreShared LinkDeclarations.Unsplit unsplit },
-    ghost required_is: { AreShared LinkDeclarations.Required required },
-    ghost optional_is: { AreShared LinkDeclarations.Optional optional },
+    ghost unsplit_is: { AreShared Unsplit unsplit },
+    ghost required_is: { AreShared Required required },
+    ghost optional_is: { AreShared Optional optional },
 }
 
 impl SharedStatuses {
