@@ -1,6 +1,7 @@
 -- The numbers and the rows of lines whose kept fields are in one list.
 use Rattle.std.proofs.Common.{None, false, ◌≡◌, ℕ, zero, suc, ◌-◌, ◌<◌, List, [], ◌∷◌, Ok, Option, Some, get_or, is_none, length, map, take, drop, sym, ap, ◌∙◌, refl, subst, arith}
 use Rattle.std.proofs.lemmas.List.{take-map, drop-map}
+use Rattle.std.proofs.lemmas.Option.{slice_get_read}
 use Rattle.std.specs.Prelude.{slice_get, slice_index}
 use Rattle.std.specs.List.{slice_range}
 use Rattle.std.specs.Option.{option_map}
@@ -27,7 +28,7 @@ pub record IsLine (kept : List Text) (start : ℕ) (lines : List Line) (i : ℕ)
   pub kept_fields : IsKept kept (start_at start lines i) line
   pub text : slice_get (line_texts kept start lines) i ≡ Some (line.number, fields_of line.form (slice_range kept (start_at start lines i) line.end))
 
-pub line_there : (kept : List Text) (start : ℕ) (lines : List Line) (i : ℕ) (line : Line) → AreKept kept start lines → slice_get lines i ≡ Some line → IsLine kept start lines i line
+line_there : (kept : List Text) (start : ℕ) (lines : List Line) (i : ℕ) (line : Line) → AreKept kept start lines → slice_get lines i ≡ Some line → IsLine kept start lines i line
 line_there kept start [] i line each at = absurd (cc)
 line_there kept start (l ∷ lines) zero line each at =
     let same : l ≡ line = cc in
@@ -39,6 +40,11 @@ line_there kept start (l ∷ lines) (suc i) line each at =
 pub length-line_texts : (kept : List Text) (start : ℕ) (lines : List Line) → length (line_texts kept start lines) ≡ length lines
 length-line_texts kept start [] = refl
 length-line_texts kept start (line ∷ lines) = ap suc (length-line_texts kept line.end lines)
+
+-- The line that is read at a place.
+pub line_read : (kept : List Text) (lines : List Line) (i : ℕ) (line : Line) → AreKept kept 0 lines → i < length (line_texts kept 0 lines) → line ≡ get_or lines i line → IsLine kept 0 lines i line
+line_read kept lines i line each within is =
+    line_there kept 0 lines i line each (slice_get_read lines (length lines) i line refl (omega (arith, length-line_texts kept 0 lines, within)) is)
 
 module _ (kept : List (Bor Text)) (lines : List Line) (i : ℕ) (line : Line) (is : IsLine (texts kept) 0 lines i line) where
   -- The row of the line at a place, from its kept fields.

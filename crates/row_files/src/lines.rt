@@ -1,7 +1,7 @@
 //! The lines of a text and their fields.
 ghost use Rattle.std.specs.Prelude.{◌≡◌, ◌+◌, ◌<◌, ◌≤◌, ◌^◌, ◌++◌, [], ◌∷◌, if◌then◌else◌, length, map, slice_index, take, IfOk, OnErr, OnOk};
 ghost use Rattle.guppy_packages.specs.Rows.{texts};
-ghost use Rattle.row_files.specs.inner.KeptFields.{AreKept, kept_of};
+ghost use Rattle.row_files.specs.inner.KeptFields.{AreKept, AreKept-prop, kept_of};
 
 use crate::cuts::skips;
 use crate::form::form_of;
@@ -15,7 +15,7 @@ use std::alloc::{AllocError, Global};
 pub struct Lines<'t> {
     pub(crate) kept: Vec<&'t str>,
     pub(crate) lines: Vec<Line>,
-    ghost each_kept: { AreKept (texts kept.items) 0 lines.items },
+    ghost each_kept: { AreKept (texts kept.items) 0 lines.items } by { AreKept-prop (texts kept.items) 0 lines.items },
 }
 
 /// Appends the kept fields of a line of this form, and the line. Returns `AllocError` if an allocation fails, or if the number of all

@@ -1,5 +1,5 @@
 //! The rows of lines, from their kept fields.
-ghost use Rattle.std.specs.Prelude.{◌≡◌, ◌<◌, Some, false, is_none, length, slice_get};
+ghost use Rattle.std.specs.Prelude.{◌≡◌, ◌-◌, ◌<◌, ◌≤◌, Some, drop, false, is_none, length, slice_get, take};
 ghost use Rattle.std.specs.Option.{option_map};
 ghost use Rattle.guppy_packages.specs.Rows.{texts, row_text};
 ghost use Rattle.row_files.specs.RowOfLine.{row_of};
@@ -92,6 +92,16 @@ fn row<'a>(form: Form, kept: &'a [&'a str]) -> Row<'a>
     }
 }
 
+/// Returns the fields of `kept` from `start` up to, not including, `end`.
+#[inline(always)]
+fn fields_between<'a, 't>(kept: &'a [&'t str], start: usize, end: usize) -> &'a [&'t str]
+    requires ascends { start ≤ end }
+    requires within { end ≤ length kept.now }
+    ensures { result.now ≡ take (end - start) (drop start kept.now) }
+{
+    &kept[start..end]
+}
+
 /// Returns the row of the line at place `at`.
 #[inline(always)]
 fn row_at<'l>(lines: &'l Lines<'_>, at: usize) -> Row<'l>
@@ -101,7 +111,10 @@ fn row_at<'l>(lines: &'l Lines<'_>, at: usize) -> Row<'l>
 {
     let line = lines.lines[at];
     let start = start(&lines.lines, at);
-    row(line.form, &lines.kept[start..line.end as usize])
+    row(
+        line.form,
+        fields_between(&lines.kept, start, line.end as usize),
+    )
 }
 
 /// The rows of lines that are all well-formed. Each row is made when it is read.

@@ -1,6 +1,7 @@
 -- The kept fields of a line, and the row that they determine.
 use Rattle.std.specs.Prelude.{◌≡◌, ℕ, ◌≤◌, List, [], ◌∷◌, Bool, true, false, Option, None, Some, is_none, length}
 use Rattle.std.specs.List.{slice_range}
+use Rattle.std.proofs.Props.{props}
 use Rattle.guppy_packages.specs.Rows.{Text, RowText, a_package, a_feature, a_dep}
 use Rattle.guppy_packages.specs.declared.row.DependencyKind.{DependencyKind}
 use Rattle.row_files.specs.RowOfLine.{row_of}
@@ -63,3 +64,8 @@ pub record IsKept (kept : List Text) (start : ℕ) (line : Line) : Type 0 where
 abbrev pub AreKept : List Text → ℕ → List Line → Type 0
 AreKept kept start [] = start ≡ length kept
 AreKept kept start (line ∷ lines) = IsKept kept start line × AreKept kept line.end lines
+
+-- A proof of this is unique.
+pub AreKept-prop : (kept : List Text) (start : ℕ) (lines : List Line) → IsProp (AreKept kept start lines)
+AreKept-prop kept start [] = hlevel props
+AreKept-prop kept start (line ∷ lines) = hlevel (AreKept-prop kept line.end lines, props)
