@@ -153,7 +153,9 @@ last_kept t x old new a last y number is =
     }
 
 one_pair : (x y : Key) (m n : ℕ) → ◌≡◌ {A = Option (Key × ℕ)} (Some (x, m)) (Some (y, n)) → (x ≡ y) × (m ≡ n)
-one_pair x y m n e = (cc, cc)
+one_pair x y m n e =
+    let same : ◌≡◌ {A = Key × ℕ} (x, m) (y, n) = cc in
+    (ap (λ p. p.0) same, ap (λ p. p.1) same)
 
 -- a key with an edge of its own becomes the last
 pub last_own : (t : Tables) (x : Key) (old new : MadeEdges) → IsOfTables t x → IsAdded t x old new → (x.kind ≡ SlashWeak → Contains (map (λ e. e.0) old.weak.entries) x.source) → old.last ≡ Some (x, length old.edges) → IsLast t new
