@@ -15,7 +15,7 @@ use std::process::ExitCode;
 use std::{env, io};
 
 /// The answer to `--version`. `./build` and the launchers replace the text in parentheses, if it isn't true of their program.
-const VERSION: &str = "features 0.9.0 (proved, rattle-kit-13f logic dac8208d650f15bf)";
+const VERSION: &str = "features 0.10.0 (proved, rattle-kit-13f logic dac8208d650f15bf)";
 
 /// Runs `command` over the rows of `reader`. The output of a closed pipe ends silently.
 fn answer_rows<R: ByteInput>(
