@@ -17,6 +17,28 @@ use std::{env, io};
 /// The answer to `--version`. `./build` and the launchers replace the text in parentheses, if it isn't true of their program.
 const VERSION: &str = "features 0.10.0 (proved, rattle-kit-13f logic dac8208d650f15bf)";
 
+/// The answer to `--help`.
+const HELP: &str =
+    "features FILE COMMAND ARGS: answers about the features of the packages in a row file
+
+FILE is the path of a row file, or - for standard input. An ID is a package's id, a slash and a feature's label.
+DIRECTION is forward (the features that a feature turns on) or reverse (those that turn it on).
+
+Commands:
+  resolve DIRECTION ID...         the features to which the given ones lead over all edges
+  visit DIRECTION ID...           the features that are on when every link is accepted
+  order DIRECTION                 all features, each before those that it turns on, or after them
+  cycles                          the features that turn each other on
+  list PACKAGE                    the labels of a package
+  warnings                        the items and listed names that ask for something that isn't there
+  build KINDS ID... [-- SPEC...]  the features that the given ones turn on for a platform, with reasons
+
+  --version, -V                   the version
+  --help, -h                      this text
+
+The status is 0 after an answer, 2 after a fault of the words, and 1 after another fault.
+Example: features examples/weak1.rows cycles";
+
 /// Runs `command` over the rows of `reader`. The output of a closed pipe ends silently.
 fn answer_rows<R: ByteInput>(
     rt: &HostRuntime,
@@ -44,9 +66,9 @@ fn answer(rt: &HostRuntime, path: &str, command: &Command<'_>) -> Result<(), Fau
     }
 }
 
-/// Writes the version to standard output.
-fn write_version(rt: &HostRuntime) -> Result<(), Fault> {
-    match println!(rt; "{VERSION}") {
+/// Writes `text` and a line feed to standard output. A closed pipe is no fault.
+fn write_text(rt: &HostRuntime, text: &str) -> Result<(), Fault> {
+    match println!(rt; "{text}") {
         Err(error) if error.kind() != ErrorKind::BrokenPipe => Err(Fault::CannotWrite),
         _ => Ok(()),
     }
@@ -54,8 +76,10 @@ fn write_version(rt: &HostRuntime) -> Result<(), Fault> {
 
 /// Runs the command of `words`.
 fn answer_words(rt: &HostRuntime, words: &[&str]) -> Result<(), Fault> {
-    if let ["--version" | "-V"] = words {
-        return write_version(rt);
+    match words {
+        ["--version" | "-V"] => return write_text(rt, VERSION),
+        ["--help" | "-h"] => return write_text(rt, HELP),
+        _ => {}
     }
     let (path, command) = parse_words(rt.alloc(), words)?;
     answer(rt, path, &command)
