@@ -10,6 +10,7 @@ ghost use Rattle.feats_words.specs.Views.{arguments_text};
 ghost use Rattle.feats_files.specs.Messages.{Says};
 ghost use Rattle.feats_plans.specs.BasisView.{basis_text};
 ghost use Rattle.feats_plans.specs.Inputs.{inputs_text};
+ghost use Rattle.cargo_plans.specs.Refusals.{is_memory};
 ghost use Rattle.feats_plans.specs.Planning.{AfterPlan, AfterPlatforms, IsPlanRefusal, IsPlatformRefusal};
 ghost use Rattle.feats_plans.specs.Selections as spec;
 
@@ -68,6 +69,13 @@ fn words_by<'s, 'n, 'h>(
     }
 }
 
+/// Returns whether `fault` is that an allocation failed.
+fn is_memory(fault: &PlanFault<'_>) -> bool
+    ensures { result ≡ is_memory fault.now }
+{
+    matches!(fault, PlanFault::Steps(StepFault::Memory))
+}
+
 /// Returns the output of `visitor` for the plan of `words`. `specs` are the platform specs of the workspace.
 fn planned_output<'w, 'n, 's, V: PlanVisitor>(
     alloc: Global,
@@ -96,8 +104,12 @@ fn planned_output<'w, 'n, 's, V: PlanVisitor>(
             drop(plan);
             output
         }
-        Err(PlanFault::Steps(StepFault::Memory)) => Err(Fault::Memory),
-        Err(fault) => Err(plan_refused(alloc, workspace, fault)),
+        Err(fault) => {
+            if is_memory(&fault) {
+                return Err(Fault::Memory);
+            }
+            Err(plan_refused(alloc, workspace, fault))
+        }
     }
 }
 

@@ -23,14 +23,11 @@ returns-in-Ok-clause-fault g c =
     let R = g.V.PlanVisitor.refuses c.args.visitor.now in
     if_err_more c.visit-output.result (R (planned inputs w words plan)) (IsPlanRefusal inputs w words R) (λ m h. of_plan plan c.in-Ok.ensures.plan h) c.visit-output.ensures.fault
 
-pub returns-in-Err : goal.returns-in-Err
-returns-in-Err g c =
+pub returns-else-is_memory-clause-fault : goal.returns-else-is_memory-clause-fault
+returns-else-is_memory-clause-fault g c =
     let inputs = inputs_text c.args.arguments.now c.args.files.now in
     let w = workspace_text c.args.workspace.now in
     let words = words_text holds_on c.args.words.now in
     let R = g.V.PlanVisitor.refuses c.args.visitor.now in
-    record {
-      output = tt;
-      fault = says_more c.plan_refused.result (λ m. m ≡ plan_message w.packages c.in-Err.fault) (IsPlanRefusal inputs w words R)
-          (λ m h. no_plan c.in-Err.fault c.in-Err.ensures.fault (search rules) h) c.plan_refused.ensures;
-    }
+    says_more c.plan_refused.result (λ m. m ≡ plan_message w.packages c.in-Err.fault) (IsPlanRefusal inputs w words R)
+        (λ m h. no_plan c.in-Err.fault c.in-Err.ensures.fault (search rules) h) c.plan_refused.ensures
