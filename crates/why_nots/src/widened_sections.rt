@@ -1,6 +1,7 @@
 //! The sections about one widening and several parts.
 ghost use Rattle.std.specs.Prelude.{◌≡◌, IfOk, map};
 ghost use Rattle.std.specs.List.{AllZip};
+ghost use Rattle.cargo_plans.specs.Refusals.{is_memory};
 ghost use Rattle.cargo_plans.specs.Plans.{IsPlanOf};
 ghost use Rattle.cargo_plans.specs.Refusals.{IsRefusal};
 ghost use Rattle.cargo_plans.specs.WordsView.{words_text};
@@ -136,6 +137,13 @@ fn unplanned_sections<'p>(
     same_sections(alloc, form, workspace, words, widening, parts, answer)
 }
 
+/// Returns whether `fault` is that an allocation failed.
+fn is_memory(fault: &PlanFault<'_>) -> bool
+    ensures { result ≡ is_memory fault.now }
+{
+    matches!(fault, PlanFault::Steps(StepFault::Memory))
+}
+
 /// Returns the sections about `widening`, whose words are `words`, and each of `parts`. It makes one plan, and one for each of the words
 /// that are tried.
 pub(crate) fn widened_sections(
@@ -154,15 +162,11 @@ pub(crate) fn widened_sections(
             drop(plan);
             sections
         }
-        Err(PlanFault::Steps(StepFault::Memory)) => Err(AllocError),
-        Err(fault) => unplanned_sections(
-            alloc,
-            form,
-            base.workspace,
-            words,
-            widening,
-            parts,
-            fault,
-        ),
+        Err(fault) => {
+            if is_memory(&fault) {
+                return Err(AllocError);
+            }
+            unplanned_sections(alloc, form, base.workspace, words, widening, parts, fault)
+        }
     }
 }

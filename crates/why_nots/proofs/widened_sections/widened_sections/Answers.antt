@@ -8,8 +8,8 @@ use Rattle.why_nots.specs.inner.Lists.{texts_of}
 use Rattle.why_nots.proofs.FoundLemmas.{unplanned}
 use Rattle.why_nots.proofs.widened_sections.widened_sections.Goals as goal
 
-pub returns-in-Err : goal.returns-in-Err
-returns-in-Err c =
+pub returns-else-is_memory : goal.returns-else-is_memory
+returns-else-is_memory c =
     IfOk-weaker c.unplanned_sections.result _ _ (λ sections shown.
     unplanned c.args.form c.args.base.alone (workspace_text c.args.base.workspace.now) (words_text holds_on c.args.base.words.now) (words_text holds_on c.args.words.now) c.args.widening c.in-Err.fault (map part_text c.args.parts.now) (texts_of sections.items)
     c.in-Err.ensures.fault (search rules) shown)
