@@ -1,9 +1,8 @@
 //! The sections about one widening and several parts.
 ghost use Rattle.std.specs.Prelude.{◌≡◌, IfOk, map};
 ghost use Rattle.std.specs.List.{AllZip};
-ghost use Rattle.cargo_plans.specs.Refusals.{is_memory};
 ghost use Rattle.cargo_plans.specs.Plans.{IsPlanOf};
-ghost use Rattle.cargo_plans.specs.Refusals.{IsRefusal};
+ghost use Rattle.cargo_plans.specs.Refusals.{IsRefusal, is_memory};
 ghost use Rattle.cargo_plans.specs.WordsView.{words_text};
 ghost use Rattle.cargo_workspaces.specs.WorkspaceView.{workspace_text};
 ghost use Rattle.plan_messages.specs.Messages.{plan_message};
