@@ -1,5 +1,5 @@
 //! Calls on the layers below feature graphs.
-mod digraphs;
+mod digraph_calls;
 mod ids;
 mod lists;
 mod long_list;
@@ -49,8 +49,8 @@ fn make_call(out: &Out, alloc: Global, graph: &PackageGraph, line: &str) -> Resu
         "covered" => ids::covered(out),
         "id" => ids::id(out, alloc, words),
         "compare" => ids::compare(out, alloc, words),
-        "digraph" | "nodes" | "pairs" => digraphs::given(out, alloc, name, words),
-        "large" => digraphs::large(out, alloc, words),
+        "digraph" | "nodes" | "pairs" => digraph_calls::given(out, alloc, name, words),
+        "large" => digraph_calls::large(out, alloc, words),
         "sets" => sets::sets(out, alloc, words),
         "equal-sets" => sets::equal(out, alloc, words),
         "full-set" => sets::full(out, alloc, words),
