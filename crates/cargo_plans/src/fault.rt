@@ -8,13 +8,13 @@ use plan_words::WordFault;
 /// The reason why there is no plan.
 #[derive(Drop)]
 pub enum PlanFault<'w> {
-    /// The command line is refused. An allocation that fails is `Memory` of the steps, never of the words.
+    /// The fault of the command line. It is never `WordFault::Memory`: `plan` returns `StepFault::Memory` if an allocation fails.
     Words(WordFault<'w>),
-    /// The command line is accepted, and a step refuses what it chooses.
+    /// The fault of a step of the plan, for a command line without a fault.
     Steps(StepFault<'w>),
 }
 
-/// Returns the fault of a plan whose words have the fault `fault`.
+/// Returns the fault of a plan whose command line has the fault `fault`.
 pub(crate) fn of_words<'w>(fault: WordFault<'w>) -> PlanFault<'w>
     ensures { result ≡ spec.of_words fault.entry }
 {
