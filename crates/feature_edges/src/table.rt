@@ -379,6 +379,7 @@ pub fn edge_table(
         gates: gates.as_slice(),
     };
     let (made, warnings) = made_edges(alloc, material)?;
+    drop(gates);
     let MadeEdges {
         edges, ends, weak, ..
     } = made;

@@ -114,7 +114,8 @@ impl fmt::Debug for ConditionalLinkImpl {
 /// One half of a weak edge: its link, if the half has a declaration.
 #[derive(Debug, Drop)]
 pub struct EnabledLink {
-    link: Option<ConditionalLinkImpl>,
+    // in a box, because a half is often missing
+    link: Option<Box<ConditionalLinkImpl>>,
 }
 
 impl EnabledLink {
@@ -122,7 +123,10 @@ impl EnabledLink {
     pub fn get(&self) -> Option<&ConditionalLinkImpl>
         ensures { option_map link_facts (option_copied result) ≡ half_facts self.now }
     {
-        self.link.as_ref()
+        match &self.link {
+            Some(link) => Some(link),
+            None => None,
+        }
     }
 
     /// Returns an equal half. `AllocError` is the only error.
@@ -131,7 +135,7 @@ impl EnabledLink {
     {
         match &self.link {
             Some(link) => {
-                let link = link.try_clone(alloc)?;
+                let link = Box::new(alloc, link.try_clone(alloc)?)?;
                 Ok(EnabledLink { link: Some(link) })
             }
             None => Ok(EnabledLink { link: None }),

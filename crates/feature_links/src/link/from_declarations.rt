@@ -298,7 +298,9 @@ pub fn half_of(
         return Ok(EnabledLink { link: None });
     }
     let link = link_of(alloc, graph, shared, link_ix, which)?;
-    Ok(EnabledLink { link: Some(link) })
+    Ok(EnabledLink {
+        link: Some(Box::new(alloc, link)?),
+    })
 }
 
 /// Returns the link over the declarations that `which` covers, of all links that leave package `package_ix` under `name`.
