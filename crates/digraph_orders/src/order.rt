@@ -18,8 +18,8 @@ mod queue;
 
 use crate::components::component_ranks;
 use counts::first_plan;
-use groups::Groups;
 use digraphs::{Digraph, IxBitSet};
+use groups::Groups;
 use listing::order_from;
 use numbering::numbered;
 use std::alloc::{AllocError, Global};

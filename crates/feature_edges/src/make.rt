@@ -16,8 +16,8 @@ use crate::candidate::{CandidateKind, Key};
 use crate::node_numbers::{Numbers, label_at};
 use feature_labels::{FeatureLabel, LinkDeclarations};
 use feature_links::{
-    ConditionalLinkImpl, FeatureEdge, LinkGroups, SharedStatuses, WeakIndex, WeakSlashImpl, half_of,
-    link_of, named_link, section_link,
+    ConditionalLinkImpl, FeatureEdge, LinkGroups, SharedStatuses, WeakIndex, WeakSlashImpl,
+    half_of, link_of, named_link, section_link,
 };
 use indexmap::IndexMap;
 use std::alloc::{AllocError, Global};

@@ -29,9 +29,9 @@ use crate::node_numbers::Numbers;
 use crate::nodes::NodeTable;
 use crate::pool::EdgeList;
 use crate::warnings::FeatureGraphWarning;
+use digraphs::{Digraph, Edge, EdgeColumns};
 use feature_links::{FeatureEdge, LinkGroups, SharedStatuses};
 use guppy_packages::PackageGraph;
-use digraphs::{Digraph, Edge, EdgeColumns};
 use indexmap::IndexMap;
 use std::alloc::{AllocError, Global};
 
@@ -381,7 +381,10 @@ pub fn edge_table(
     let (made, warnings) = made_edges(alloc, material)?;
     drop(gates);
     let MadeEdges {
-        edges, ends, weak, ..
+        edges,
+        ends,
+        weak,
+        ..
     } = made;
     let digraph = Digraph::from_columns(alloc, table.packages.len(), ends)?;
     let edge_table = EdgeTable {

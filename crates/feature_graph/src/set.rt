@@ -18,9 +18,9 @@ mod parts;
 mod roots;
 
 use crate::graph::FeatureGraph;
+use digraphs::{IxBitSet, Ones};
 use feature_core::Error;
 use feature_labels::FeatureId;
-use digraphs::{IxBitSet, Ones};
 pub use links::{ConditionalLinks, Links};
 pub use ordered::{FeatureIds, Features};
 pub use packages::InitialPackages;

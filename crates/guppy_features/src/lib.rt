@@ -7,6 +7,7 @@ mod listed_filters;
 mod platform_visitor;
 
 pub use digraph_orders::Order;
+pub use digraphs::{Digraph, DigraphError, Edge, EdgeColumns, IxBitSet, Ones};
 pub use feature_graph::{
     AllCycles, ConditionalLink, ConditionalLinkImpl, ConditionalLinks, Cycles, Declaration,
     DependencyDirection, DependencyKind, DisplayFeatures, EdgeChoice, EnabledLink, Error,
@@ -21,10 +22,9 @@ pub use feature_graph::{
 };
 pub use feature_labels::feature_list::{IntoIter, Iter, NamedFeatures, OptionalDeps};
 pub use guppy_packages::{Packages, RowSource};
-pub use digraphs::{Digraph, DigraphError, Edge, EdgeColumns, IxBitSet, Ones};
+pub use guppy_support::Reading;
 pub use listed_filters::{
     FeatureIdFilter, NamedFeatureFilter, feature_id_filter, named_feature_filter,
 };
-pub use guppy_support::Reading;
 pub use platform_visitor::PlatformVisitor;
 pub use walk_engine::{Half, Offerer};

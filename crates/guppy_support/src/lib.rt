@@ -16,7 +16,9 @@ mod search;
 pub use cycles::{cyclic_components, is_cyclic};
 pub use depending::depends_on;
 pub use digraph_orders::Order;
-pub use digraphs::{Digraph, DigraphError, Edge, EdgeColumns, IxBitSet, Ones, begin_up_to, collect_exactly};
+pub use digraphs::{
+    Digraph, DigraphError, Edge, EdgeColumns, IxBitSet, Ones, begin_up_to, collect_exactly,
+};
 pub use in_order::InOrder;
 pub use links_in_order::LinksInOrder;
 pub use reached_nodes::reach;

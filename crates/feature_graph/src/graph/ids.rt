@@ -8,8 +8,8 @@ ghost use Rattle.feature_graph.specs.Names.{AreKnown, IsFirstUnknown, HoldsExact
 ghost use Rattle.feature_graph.specs.Views.{tables_of_graph};
 
 use crate::graph::FeatureGraph;
-use feature_labels::FeatureId;
 use digraphs::IxBitSet;
+use feature_labels::FeatureId;
 use std::alloc::{AllocError, Global};
 
 /// Returns the first of `ids` that the graph lacks.

@@ -10,9 +10,9 @@ use crate::graph::ids::insert_id;
 use crate::query::FeatureQuery;
 use crate::query::filter::FeatureFilter;
 use crate::set::FeatureSet;
+use digraphs::IxBitSet;
 use feature_core::Error;
 use guppy_packages::DependencyDirection;
-use digraphs::IxBitSet;
 use std::alloc::Global;
 
 impl<'g> FeatureGraph<'g> {

@@ -15,10 +15,10 @@ use crate::query::context::FeatureLinkContext;
 use crate::query::visitor::FeatureLinkVisitor;
 use crate::resolve::with::Shown;
 use crate::set::FeatureSet;
+use digraphs::IxBitSet;
 use feature_core::graph_laws::{content_of_graph, offers_are_links};
 use feature_core::{Error, Packed};
 use guppy_packages::DependencyDirection;
-use digraphs::IxBitSet;
 use std::alloc::{AllocError, Global};
 use walk_engine::{Half, Step, walk_explained};
 

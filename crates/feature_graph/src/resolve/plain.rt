@@ -11,10 +11,10 @@ use crate::graph::FeatureGraph;
 use crate::graph::ids::{first_unknown, set_of_ids};
 use crate::query::FeatureQuery;
 use crate::set::FeatureSet;
+use digraphs::IxBitSet;
 use feature_core::{EdgeChoice, Error, walk_all};
 use feature_labels::FeatureId;
 use guppy_packages::DependencyDirection;
-use digraphs::IxBitSet;
 use std::alloc::Global;
 
 impl<'g> FeatureGraph<'g> {

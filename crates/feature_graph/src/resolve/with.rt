@@ -12,9 +12,9 @@ use crate::query::FeatureQuery;
 use crate::query::context::FeatureLinkContext;
 use crate::query::visitor::{FeatureLinkVisitor, LinkVisitorFn};
 use crate::set::FeatureSet;
+use digraphs::IxBitSet;
 use feature_core::graph_laws::offers_are_links;
 use feature_core::{Error, Packed};
-use digraphs::IxBitSet;
 use std::alloc::{AllocError, Global};
 use walk_engine::{Half, Offerer, walk_over};
 

@@ -4,9 +4,9 @@ ghost use Rattle.feature_graph.specs.MemberPackages.{AreMemberPackages};
 
 use crate::set::FeatureSet;
 use crate::set::parts::put;
+use digraphs::IxBitSet;
 use feature_core::Error;
 use guppy_packages::PackageSet;
-use digraphs::IxBitSet;
 use std::alloc::{AllocError, Global};
 
 impl<'g> FeatureSet<'g> {

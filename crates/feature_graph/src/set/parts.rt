@@ -9,9 +9,9 @@ use crate::graph::FeatureGraph;
 use crate::graph::metadata::FeatureMetadata;
 use crate::link::feature_at;
 use crate::set::FeatureSet;
+use digraphs::IxBitSet;
 use feature_core::Error;
 use guppy_packages::DependencyDirection;
-use digraphs::IxBitSet;
 use guppy_support::InOrder;
 use std::alloc::Global;
 
