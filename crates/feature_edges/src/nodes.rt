@@ -43,7 +43,8 @@ fn push_nodes(packages: &mut Vec<u32>, metadata: PackageMetadata<'_>) -> Result<
     push_times(packages, ix, metadata.optional_deps().len())
 }
 
-/// Returns the nodes of all packages. Returns `AllocError` if an allocation fails, or a number doesn't fit in 32 bits.
+/// Returns the nodes of all packages. Returns `AllocError` if an allocation fails, or the graph is over a
+/// [limit](../../../docs/DIFFERENCES.md#limits).
 pub fn node_table(alloc: Global, graph: &PackageGraph) -> Result<NodeTable, AllocError>
     ensures firsts { IfOk result (λ table. table.firsts.items ≡ first_nodes graph.now) }
     ensures packages { IfOk result (λ table. table.packages.items ≡ node_packages graph.now) }

@@ -348,7 +348,8 @@ fn made_edges(
     Ok((made, warnings))
 }
 
-/// Returns the edges of a package graph whose nodes are in `table`, and its warnings.
+/// Returns the edges of a package graph whose nodes are in `table`, and its warnings. Returns `AllocError` if an allocation fails, or
+/// the graph is over a [limit](../../../docs/DIFFERENCES.md#limits).
 pub fn edge_table(
     alloc: Global,
     numbers: Numbers<'_>,

@@ -39,7 +39,7 @@ link_facts l = record {
 }
 
 abbrev pub half_facts : EnabledLink → Option LinkFacts
-half_facts half = option_map link_facts half.link
+half_facts half = option_map (λ link. link_facts link.value) half.link
 
 -- The number of a weak link.
 abbrev pub weak_number : WeakIndex → ℕ
