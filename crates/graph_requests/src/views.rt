@@ -9,9 +9,9 @@ use crate::answers::{broken, with_numbers};
 use crate::requests::view_in;
 use crate::sets::set_of;
 use digraph_orders::Order;
-use digraphs::{Digraph, IxBitSet};
 use feature_core::FeatureGraphData;
 use guppy_packages::DependencyDirection;
+use digraphs::{Digraph, IxBitSet};
 use guppy_support::{InOrder, LinksInOrder, Reading};
 use std::alloc::{AllocError, Global};
 

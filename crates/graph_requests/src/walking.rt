@@ -19,9 +19,9 @@ use crate::requests::{start_in, view_in};
 use crate::sets::set_of;
 use crate::steps::{Offers, Steps};
 use binary_records::push_list;
-use digraphs::IxBitSet;
 use feature_core::{EdgeChoice, FeatureGraphData, Packed, walk_all};
 use guppy_packages::{DependencyDirection, PackageGraph};
+use digraphs::IxBitSet;
 use std::alloc::{AllocError, Global};
 use walk_engine::{Half, Step, walk_explained};
 

@@ -14,9 +14,9 @@ ghost use Rattle.plan_links.specs.inner.Starting.{starting};
 
 use crate::numbers::{holds, push_if};
 use crate::places::links_between;
-use digraphs::IxBitSet;
 use feature_labels::FeatureLabel;
 use guppy_packages::PackageGraph;
+use digraphs::IxBitSet;
 use plan_steps::{Place, Plan, Unit};
 use std::alloc::{AllocError, Global};
 use step_visits::Visited;

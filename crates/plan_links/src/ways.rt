@@ -10,10 +10,10 @@ ghost use Rattle.plan_links.specs.inner.Pairs.{counted_ends, ends_if};
 
 use crate::numbers::{holds, members_of};
 use crate::places::links_between;
-use digraphs::IxBitSet;
 use feature_core::Packed;
 use feature_core::graph_laws::content_of_graph;
 use guppy_packages::DependencyDirection;
+use digraphs::IxBitSet;
 use plan_steps::{PackageVisit, Plan};
 use std::alloc::{AllocError, Global};
 use walk_checks::{EdgeTable, TableEdge};

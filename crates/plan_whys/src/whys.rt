@@ -17,8 +17,8 @@ use crate::nodes::{each_from, node_of, why_from};
 use crate::steps::{Spot, WhyStep};
 use cargo_plans::{PackageVisit, Plan, PlanWords, Platform, Settings, on_places};
 use cargo_workspaces::Workspace;
-use digraphs::IxBitSet;
 use feature_core::graph_laws::one_content;
+use digraphs::IxBitSet;
 use plan_words::choose;
 use std::alloc::{AllocError, Global};
 

@@ -7,10 +7,10 @@ ghost use Rattle.feature_core.specs.Nodes.{NodeAt, node_packages};
 ghost use Rattle.step_visits.specs.Visits.{is_start, node_at, reaches, place_view};
 
 use crate::visiting::start_nodes;
-use digraphs::IxBitSet;
 use feature_core::FeatureGraphData;
 use feature_labels::{FeatureId, FeatureLabel};
 use guppy_packages::PackageGraph;
+use digraphs::IxBitSet;
 use std::alloc::{AllocError, Global};
 use std::marker::Model;
 

@@ -6,13 +6,13 @@ ghost use Rattle.feature_labels.specs.Names.{label_of};
 ghost use Rattle.step_visits.specs.Visits.{IsReached, IsVisit, is_node, is_start, node_at, place_view};
 
 use crate::visited::{Visited, node_of};
-use digraphs::IxBitSet;
 use feature_core::engine::{Half, Offerer};
 use feature_core::graph_laws::one_content;
 use feature_core::laws::agrees_by_answer;
 use feature_core::{FeatureGraphData, walk};
 use feature_labels::FeatureLabel;
 use guppy_packages::{DependencyDirection, PackageGraph};
+use digraphs::IxBitSet;
 use std::alloc::{AllocError, Global};
 
 /// An offerer that accepts each offer.
