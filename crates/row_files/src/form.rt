@@ -12,8 +12,8 @@ fn place(word: &str) -> Option<bool>
     ensures { result ≡ choice (codes "workspace") (codes "external") word.now }
 {
     match word {
-        "workspace" => Some(true),
         "external" => Some(false),
+        "workspace" => Some(true),
         _ => None,
     }
 }
@@ -22,8 +22,8 @@ fn need(word: &str) -> Option<bool>
     ensures { result ≡ choice (codes "optional") (codes "required") word.now }
 {
     match word {
-        "optional" => Some(true),
         "required" => Some(false),
+        "optional" => Some(true),
         _ => None,
     }
 }
