@@ -3,8 +3,8 @@ use Rattle.std.specs.Prelude.{◌≡◌, ℕ, List, [], ◌∷◌, flat_map, Opt
 use Rattle.cargo_workspaces.specs.Workspaces.{Text, PackageText, WorkspaceText}
 use Rattle.cargo_plans.specs.Plans.{WordsText}
 use Rattle.feats_words.specs.declared.command_arguments.Format.{Format}
-use Rattle.feature_trees.specs.Dots.{IsFeatureDot}
-use Rattle.feature_trees.specs.Trees.{IsFeatureTree, IsInvertedFeatureTree}
+use Rattle.feats_tree.specs.features.Dots.{IsFeatureDot}
+use Rattle.feats_tree.specs.features.Trees.{IsFeatureTree, IsInvertedFeatureTree}
 use Rattle.plan_names.specs.Names.{NamedText}
 use Rattle.cargo_plans.specs.plan_steps.Plans.{PlanText}
 use Rattle.feats_answers.specs.AnswerTexts.{AnswerText, IsPositive, negative, positive}

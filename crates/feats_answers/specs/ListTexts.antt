@@ -3,8 +3,8 @@ use Rattle.std.specs.Prelude.{◌≡◌, ℕ, Bool, Ok, Some, slice_get}
 use Rattle.feature_labels.specs.Names.{LabelName}
 use Rattle.built_parts.specs.Built.{is_part_built}
 use Rattle.cargo_workspaces.specs.Workspaces.{Text, PackageText, WorkspaceText}
-use Rattle.feature_lists.specs.Lines.{feature_lines}
-use Rattle.feature_lists.specs.Objects.{feature_objects}
+use Rattle.feats_list.specs.features.Lines.{feature_lines}
+use Rattle.feats_list.specs.features.Objects.{feature_objects}
 use Rattle.plan_names.specs.Faults.{package_named}
 use Rattle.plan_rows.specs.declared.side.Side.{Side}
 use Rattle.cargo_plans.specs.plan_steps.Plans.{PlanText}

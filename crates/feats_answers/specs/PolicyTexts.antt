@@ -6,8 +6,8 @@ use Rattle.feats_files.specs.Files.{FileText}
 use Rattle.plan_platforms.specs.DeclaredSpecs.{DeclaredText}
 use Rattle.plan_platforms.specs.HeldSpecs.{is_declared}
 use Rattle.cargo_plans.specs.plan_steps.Plans.{PlanText}
-use Rattle.policy_answers.specs.Answers.{IsPolicyAnswer, IsPolicyRefusal}
-use Rattle.policy_answers.specs.Questions.{PrintedText, QuestionText}
+use Rattle.feats_check.specs.checking.Answers.{IsPolicyAnswer, IsPolicyRefusal}
+use Rattle.feats_check.specs.checking.Questions.{PrintedText, QuestionText}
 use Rattle.feats_answers.specs.AnswerTexts.{AnswerText}
 use Rattle.feats_answers.specs.Asked.{AskedText}
 

@@ -7,7 +7,7 @@ use Rattle.toml.specs.Data.{Data}
 use Rattle.inherited_dependencies.specs.Manifests.{AreManifests, IsNoManifests}
 use Rattle.feats_files.specs.Messages.{joined}
 use Rattle.feats_words.specs.declared.command_arguments.Format.{Format}
-use Rattle.slim_lines.specs.Texts.{IsSlimText}
+use Rattle.feats_slim.specs.answers.Texts.{IsSlimText}
 
 -- The text about these units, by the manifests in the bytes. Without bytes nothing is inherited.
 pub record IsSlimBy (form : Format) (bytes : Text) (w : WorkspaceText) (words : WordsText) (units : List UnitText) (text : Text) : Type 0 where

@@ -3,9 +3,9 @@ use Rattle.std.specs.Prelude.{List, [], ◌∷◌, Bool, map, codes}
 use Rattle.std.specs.List.{zip}
 use Rattle.cargo_workspaces.specs.Workspaces.{Text}
 use Rattle.plan_platforms.specs.DeclaredSpecs.{DeclaredText}
-use Rattle.spec_lists.specs.Lines.{IsSpecLines}
-use Rattle.spec_lists.specs.Lists.{PlaceText}
-use Rattle.spec_lists.specs.Objects.{IsSpecObjects}
+use Rattle.feats_list.specs.platforms.Lines.{IsSpecLines}
+use Rattle.feats_list.specs.platforms.Lists.{PlaceText}
+use Rattle.feats_list.specs.platforms.Objects.{IsSpecObjects}
 use Rattle.feats_files.specs.Files.{FileText}
 use Rattle.feats_words.specs.declared.command_arguments.Format.{Format}
 use Rattle.feats_words.specs.declared.command_arguments.Format.TheVariants as format

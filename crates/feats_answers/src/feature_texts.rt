@@ -3,7 +3,7 @@ ghost use Rattle.std.specs.Prelude.{◌≡◌, [], IfOk, IfErr, flat_map, map, o
 ghost use Rattle.cargo_plans.specs.WordsView.{words_text};
 ghost use Rattle.cargo_workspaces.specs.WorkspaceView.{workspace_text};
 ghost use Rattle.feats_files.specs.Messages.{Says};
-ghost use Rattle.feature_trees.specs.Trees.{IsFeatureTree, IsInvertedFeatureTree};
+ghost use Rattle.feats_tree.specs.features.Trees.{IsFeatureTree, IsInvertedFeatureTree};
 ghost use Rattle.plan_names.specs.Views.{named_text};
 ghost use Rattle.plan_platforms.specs.HeldSpecs.{holds_on};
 ghost use Rattle.cargo_plans.specs.plan_steps.PlanViews.{plan_text};
@@ -21,7 +21,7 @@ use cargo_plans::{Plan, PlanWords};
 use cargo_workspaces::Workspace;
 use feats_files::Fault;
 use feats_words::Format;
-use feature_trees::{feature_dot, feature_tree, inverted_feature_tree};
+use feats_tree::features::{feature_dot, feature_tree, inverted_feature_tree};
 use plan_names::Named;
 use plan_platforms::HeldSpecs;
 use std::alloc::{AllocError, Global};

@@ -5,7 +5,7 @@ ghost use Rattle.feats_answers.specs.LabelsOn.{built_labels};
 use built_parts::BuiltParts;
 use cargo_plans::Side;
 use feature_labels::FeatureLabel;
-use feature_lists::LabelsOn;
+use feats_list::features::LabelsOn;
 
 /// The labels that are built in a plan.
 #[derive(Clone, Copy)]

@@ -17,7 +17,7 @@ use cargo_plans::Plan;
 use cargo_workspaces::{Package, Workspace};
 use feats_files::Fault;
 use feats_words::Format;
-use feature_lists::{feature_lines, feature_objects};
+use feats_list::features::{feature_lines, feature_objects};
 use plan_names::package_named;
 use std::alloc::{AllocError, Global};
 

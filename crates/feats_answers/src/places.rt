@@ -2,14 +2,14 @@
 ghost use Rattle.std.specs.Prelude.{◌≡◌, ◌++◌, IfOk, OnOk, map};
 ghost use Rattle.cargo_workspaces.specs.Views.{texts};
 ghost use Rattle.plan_platforms.specs.HeldSpecs.{holds_on};
-ghost use Rattle.spec_lists.specs.Views.{place_text};
+ghost use Rattle.feats_list.specs.platforms.Views.{place_text};
 ghost use Rattle.feats_files.specs.FileViews.{file_text};
 ghost use Rattle.feats_answers.specs.SpecTexts as spec;
 
 use crate::plan_texts::target_names;
 use feats_files::PlatformFile;
 use plan_platforms::HeldSpecs;
-use spec_lists::NamedPlatform;
+use feats_list::platforms::NamedPlatform;
 use std::alloc::{AllocError, Global};
 
 /// Appends the target platforms, each with its name.

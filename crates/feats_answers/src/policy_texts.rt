@@ -9,8 +9,8 @@ ghost use Rattle.feats_files.specs.Messages.{Says};
 ghost use Rattle.plan_platforms.specs.HeldSpecs.{holds_on};
 ghost use Rattle.plan_platforms.specs.Views.{declared_text};
 ghost use Rattle.cargo_plans.specs.plan_steps.PlanViews.{plan_text};
-ghost use Rattle.policy_answers.specs.Answers.{IsPolicyAnswer, IsPolicyRefusal};
-ghost use Rattle.policy_answers.specs.QuestionViews.{question_text};
+ghost use Rattle.feats_check.specs.checking.Answers.{IsPolicyAnswer, IsPolicyRefusal};
+ghost use Rattle.feats_check.specs.checking.QuestionViews.{question_text};
 ghost use Rattle.feats_answers.specs.AnswerViews.{answer_text};
 ghost use Rattle.feats_answers.specs.Asked.{asked_text};
 ghost use Rattle.feats_answers.specs.PolicyTexts as spec;
@@ -22,7 +22,7 @@ use cargo_plans::{Plan, PlanWords};
 use cargo_workspaces::Workspace;
 use feats_files::{Fault, PlatformFile};
 use plan_platforms::{DeclaredSpec, HeldSpecs, every_spec};
-use policy_answers::{PolicyQuestion, policy_answer};
+use feats_check::checking::{PolicyQuestion, policy_answer};
 use std::alloc::{AllocError, Global};
 
 /// The policy that `check` is about.

@@ -7,7 +7,7 @@ ghost use Rattle.toml.specs.View.{view};
 ghost use Rattle.inherited_dependencies.specs.Manifests.{AreManifests, IsNoManifests};
 ghost use Rattle.feats_files.specs.Messages.{Says};
 ghost use Rattle.plan_platforms.specs.HeldSpecs.{holds_on};
-ghost use Rattle.slim_lines.specs.Texts.{IsSlimText};
+ghost use Rattle.feats_slim.specs.answers.Texts.{IsSlimText};
 ghost use Rattle.feats_answers.specs.SlimTexts as spec;
 
 use cargo_plans::{Plan, PlanWords};
@@ -16,7 +16,7 @@ use feats_files::{Fault, refused};
 use feats_words::Format;
 use inherited_dependencies::{ManifestsFault, manifests_in};
 use plan_platforms::HeldSpecs;
-use slim_lines::slim_text as text_of_slims;
+use feats_slim::answers::slim_text as text_of_slims;
 use std::alloc::{AllocError, Global};
 use toml::Value;
 

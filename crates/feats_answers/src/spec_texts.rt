@@ -2,7 +2,7 @@
 ghost use Rattle.std.specs.Prelude.{IfOk, map};
 ghost use Rattle.plan_platforms.specs.HeldSpecs.{holds_on};
 ghost use Rattle.plan_platforms.specs.Views.{declared_text};
-ghost use Rattle.spec_lists.specs.Views.{place_text};
+ghost use Rattle.feats_list.specs.platforms.Views.{place_text};
 ghost use Rattle.feats_files.specs.FileViews.{file_text};
 ghost use Rattle.feats_answers.specs.SpecTexts as spec;
 
@@ -10,7 +10,7 @@ use crate::places::places_of;
 use feats_files::PlatformFile;
 use feats_words::Format;
 use plan_platforms::{DeclaredSpec, HeldSpecs};
-use spec_lists::{NamedPlatform, spec_lines, spec_objects};
+use feats_list::platforms::{NamedPlatform, spec_lines, spec_objects};
 use std::alloc::{AllocError, Global};
 
 /// Returns the text about `specs` in these places.

@@ -5,8 +5,8 @@ ghost use Rattle.feats_files.specs.FileViews.{file_text};
 ghost use Rattle.feats_files.specs.Messages.{Says};
 ghost use Rattle.plan_names.specs.Faults.{package_named as named_by};
 ghost use Rattle.cargo_plans.specs.plan_steps.PlanViews.{plan_text};
-ghost use Rattle.feature_trees.specs.plan_trees.Dots.{IsPackageDot};
-ghost use Rattle.feature_trees.specs.plan_trees.Trees.{IsInvertedTree, IsPackageTree};
+ghost use Rattle.feats_tree.specs.features.plan_trees.Dots.{IsPackageDot};
+ghost use Rattle.feats_tree.specs.features.plan_trees.Trees.{IsInvertedTree, IsPackageTree};
 ghost use Rattle.feats_answers.specs.AnswerTexts.{IsPositive, negative as negative_text};
 ghost use Rattle.feats_answers.specs.AnswerViews.{answer_text};
 ghost use Rattle.feats_answers.specs.Gathered.{no_line as no_line_of};
@@ -22,7 +22,7 @@ use cargo_plans::Plan;
 use cargo_workspaces::Workspace;
 use feats_files::{Fault, PlatformFile};
 use feats_words::Format;
-use feature_trees::{inverted_package_tree, package_dot, package_tree};
+use feats_tree::features::{inverted_package_tree, package_dot, package_tree};
 use std::alloc::{AllocError, Global};
 
 /// Returns the answer with the trees of what started packages depend on.

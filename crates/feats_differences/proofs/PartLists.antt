@@ -7,8 +7,8 @@ use Rattle.cargo_workspaces.specs.Views.{package_text}
 use Rattle.cargo_workspaces.specs.Workspaces.{Text, PackageText}
 use Rattle.cargo_workspaces.specs.declared.package.Package.{Package}
 use Rattle.feats_differences.specs.Builds.{part_at, part_of}
-use Rattle.plan_differences.specs.Views.{part_text}
-use Rattle.plan_differences.specs.declared.parts.Part.{Part}
+use Rattle.feats_diff.specs.changes.Views.{part_text}
+use Rattle.feats_diff.specs.declared.changes.parts.Part.{Part}
 use Rattle.cargo_plans.specs.plan_units.Units.{UnitText}
 
 module _ (targets : List Text) (packages : List PackageText) (k : ℕ) (u : UnitText) (found : Option (Bor Package)) (is_found : option_map (λ p. package_text p.now) found ≡ slice_get packages u.number) where

@@ -6,16 +6,16 @@ use Rattle.std.specs.String.{string_bytes}
 use Rattle.std.specs.declared.alloc.Global.{Global}
 use Rattle.cargo_workspaces.specs.Views.{texts}
 use Rattle.cargo_workspaces.specs.Workspaces.{Text}
-use Rattle.difference_lines.specs.Shown.{DifferenceText, gone}
-use Rattle.difference_lines.specs.Views.{difference_text}
-use Rattle.difference_lines.specs.declared.shown.Difference.{Difference}
+use Rattle.feats_diff.specs.texts.Shown.{DifferenceText, gone}
+use Rattle.feats_diff.specs.texts.Views.{difference_text}
+use Rattle.feats_diff.specs.declared.texts.shown.Difference.{Difference}
 use Rattle.feats_differences.specs.Shown.{all_shown, change_shown, changes_shown, comes_from, is_shown, shown_of}
 use Rattle.feats_differences.specs.Views.{whys_text}
 use Rattle.feats_differences.specs.declared.whys.Whys.{Whys}
-use Rattle.plan_differences.specs.Views.{change_text, differences_text, part_text}
-use Rattle.plan_differences.specs.declared.comparing.Differences.{Differences}
-use Rattle.plan_differences.specs.declared.feature_changes.Change.{Change}
-use Rattle.plan_differences.specs.declared.parts.Part.{Part}
+use Rattle.feats_diff.specs.changes.Views.{change_text, differences_text, part_text}
+use Rattle.feats_diff.specs.declared.changes.comparing.Differences.{Differences}
+use Rattle.feats_diff.specs.declared.changes.feature_changes.Change.{Change}
+use Rattle.feats_diff.specs.declared.changes.parts.Part.{Part}
 
 rest_texts : (left : List (String Global)) (names : List (Bor Text)) → map string_bytes (drop (length names) left) ≡ drop (length (texts names)) (map string_bytes left)
 rest_texts left names = sym (ap (λ n. drop n (map string_bytes left)) (length-map names (λ t. t.now)) ∙ drop-map string_bytes (length names) left)

@@ -1,14 +1,14 @@
 -- The answer to `diff`.
 use Rattle.std.specs.Prelude.{◌≡◌, List, not}
 use Rattle.cargo_workspaces.specs.Workspaces.{Text, PackageText}
-use Rattle.difference_lines.specs.Lines.{difference_lines}
-use Rattle.difference_lines.specs.Objects.{difference_objects}
-use Rattle.difference_lines.specs.Shown.{DifferenceText}
+use Rattle.feats_diff.specs.texts.Lines.{difference_lines}
+use Rattle.feats_diff.specs.texts.Objects.{difference_objects}
+use Rattle.feats_diff.specs.texts.Shown.{DifferenceText}
 use Rattle.feats_answers.specs.AnswerTexts.{AnswerText}
 use Rattle.feats_words.specs.declared.command_arguments.Format.{Format}
 use Rattle.feats_words.specs.declared.command_arguments.Format.TheVariants as format
-use Rattle.plan_differences.specs.Differences.{AreDifferences, DifferencesText, IsPartitioned}
-use Rattle.plan_differences.specs.Equality.{are_equal}
+use Rattle.feats_diff.specs.changes.Differences.{AreDifferences, DifferencesText, IsPartitioned}
+use Rattle.feats_diff.specs.changes.Equality.{are_equal}
 use Rattle.feats_differences.specs.Builds.{BuildText, parts_of}
 use Rattle.feats_differences.specs.Shown.{all_shown}
 use Rattle.feats_differences.specs.Whys.{AreAllWhys, WhysText}

@@ -4,8 +4,8 @@ use Rattle.std.specs.Option.{option_map_or}
 use Rattle.cargo_plans.specs.Plans.{WordsText}
 use Rattle.cargo_workspaces.specs.Workspaces.{Text, PackageText, WorkspaceText}
 use Rattle.feats_answers.specs.PlanTexts.{place_name}
-use Rattle.plan_differences.specs.Parts.{PartText}
-use Rattle.plan_differences.specs.Ranks.{rank_of}
+use Rattle.feats_diff.specs.changes.Parts.{PartText}
+use Rattle.feats_diff.specs.changes.Ranks.{rank_of}
 use Rattle.cargo_plans.specs.plan_starts.Lists.{joined_from}
 use Rattle.cargo_plans.specs.plan_steps.Plans.{PlanText}
 use Rattle.cargo_plans.specs.plan_units.Units.{UnitText}

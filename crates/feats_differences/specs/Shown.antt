@@ -1,10 +1,10 @@
 -- What is shown of the differences of two builds.
 use Rattle.std.specs.Prelude.{ℕ, List, [], ◌∷◌, ◌++◌, Bool, true, false, ◌||◌, drop, if◌then◌else◌, length, map, not, slice_get, unwrap_or}
 use Rattle.cargo_workspaces.specs.Workspaces.{Text}
-use Rattle.difference_lines.specs.Shown.{DifferenceText, TurnedText, changed, come, gone}
-use Rattle.plan_differences.specs.Changes.{ChangeText, keeps_features}
-use Rattle.plan_differences.specs.Differences.{DifferencesText}
-use Rattle.plan_differences.specs.Parts.{PartText}
+use Rattle.feats_diff.specs.texts.Shown.{DifferenceText, TurnedText, changed, come, gone}
+use Rattle.feats_diff.specs.changes.Changes.{ChangeText, keeps_features}
+use Rattle.feats_diff.specs.changes.Differences.{DifferencesText}
+use Rattle.feats_diff.specs.changes.Parts.{PartText}
 use Rattle.plan_lines.specs.Lines.{ShownText}
 use Rattle.cargo_plans.specs.plan_starts.Lists.{joined_from}
 use Rattle.feats_differences.specs.Whys.{WhysText}

@@ -7,9 +7,9 @@ use Rattle.cargo_workspaces.specs.Workspaces.{Text}
 use Rattle.feats_answers.specs.WhyTexts.{why_settings}
 use Rattle.feature_labels.specs.Names.{LabelName}
 use Rattle.feature_labels.specs.Names.LabelName.{base, named}
-use Rattle.plan_differences.specs.Changes.{ChangeText}
-use Rattle.plan_differences.specs.Differences.{DifferencesText}
-use Rattle.plan_differences.specs.Parts.{PartText}
+use Rattle.feats_diff.specs.changes.Changes.{ChangeText}
+use Rattle.feats_diff.specs.changes.Differences.{DifferencesText}
+use Rattle.feats_diff.specs.changes.Parts.{PartText}
 use Rattle.plan_rows.specs.Steps.{side_of}
 use Rattle.plan_rows.specs.declared.side.Side.{Side}
 use Rattle.plan_rows.specs.declared.side.Side.TheVariants.{Target}

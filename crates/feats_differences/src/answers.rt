@@ -2,22 +2,22 @@
 ghost use Rattle.std.specs.Prelude.{◌≡◌, IfOk, map};
 ghost use Rattle.cargo_plans.specs.Plans.{IsPlanOf};
 ghost use Rattle.cargo_workspaces.specs.WorkspaceView.{workspace_text};
-ghost use Rattle.difference_lines.specs.Views.{difference_text};
+ghost use Rattle.feats_diff.specs.texts.Views.{difference_text};
 ghost use Rattle.feats_answers.specs.AnswerViews.{answer_text};
 ghost use Rattle.feats_differences.specs.Answers as spec;
 ghost use Rattle.feats_differences.specs.Shown as shown_as;
 ghost use Rattle.feats_differences.specs.Views.{build_text, whys_text};
-ghost use Rattle.plan_differences.specs.Views.{differences_text};
+ghost use Rattle.feats_diff.specs.changes.Views.{differences_text};
 
 use crate::builds::Build;
 use crate::parts::parts_of;
 use crate::shown::{push_changes, push_comes, push_gone};
 use crate::whys::{Whys, whys_of};
 use cargo_workspaces::Workspace;
-use difference_lines::{Difference, difference_lines, difference_objects};
+use feats_diff::texts::{Difference, difference_lines, difference_objects};
 use feats_answers::Answer;
 use feats_words::Format;
-use plan_differences::{Differences, differences_between};
+use feats_diff::changes::{Differences, differences_between};
 use std::alloc::{AllocError, Global};
 
 /// Returns what is shown of `differences`, with the last steps of each `why`.

@@ -4,14 +4,14 @@ ghost use Rattle.cargo_workspaces.specs.Views.{package_text, texts};
 ghost use Rattle.feats_answers.specs.PlanTexts as names;
 ghost use Rattle.feats_differences.specs.Builds as spec;
 ghost use Rattle.feats_differences.specs.Views.{build_text};
-ghost use Rattle.plan_differences.specs.Ranks.{rank_of};
-ghost use Rattle.plan_differences.specs.Views.{part_text};
+ghost use Rattle.feats_diff.specs.changes.Ranks.{rank_of};
+ghost use Rattle.feats_diff.specs.changes.Views.{part_text};
 ghost use Rattle.cargo_plans.specs.plan_units.UnitViews.{unit_text};
 
 use crate::builds::Build;
 use cargo_plans::{Place, Unit};
 use cargo_workspaces::Package;
-use plan_differences::{Part, Rank, rank_of};
+use feats_diff::changes::{Part, Rank, rank_of};
 use std::alloc::{AllocError, Global};
 
 /// Returns the name of `place`, where the target platforms have the names `targets`.

@@ -1,14 +1,14 @@
 //! What is shown of the differences of two builds.
 ghost use Rattle.std.specs.Prelude.{◌≡◌, ◌++◌, ◌∷◌, [], IfOk, OnOk, drop, if◌then◌else◌, length, map, string_bytes};
 ghost use Rattle.cargo_workspaces.specs.Views.{texts};
-ghost use Rattle.difference_lines.specs.Shown.{gone as text_of_gone};
-ghost use Rattle.difference_lines.specs.Views.{difference_text, turned_text};
+ghost use Rattle.feats_diff.specs.texts.Shown.{gone as text_of_gone};
+ghost use Rattle.feats_diff.specs.texts.Views.{difference_text, turned_text};
 ghost use Rattle.feats_differences.specs.Shown as spec;
-ghost use Rattle.plan_differences.specs.Views.{change_text, part_text};
+ghost use Rattle.feats_diff.specs.changes.Views.{change_text, part_text};
 ghost use Rattle.plan_lines.specs.Views.{shown_text};
 
-use difference_lines::{Difference, Turned};
-use plan_differences::{Change, Part};
+use feats_diff::texts::{Difference, Turned};
+use feats_diff::changes::{Change, Part};
 use plan_lines::Shown;
 use std::alloc::{AllocError, Global};
 

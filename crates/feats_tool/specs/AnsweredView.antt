@@ -1,6 +1,6 @@
 -- The value that an answer with its warnings contains.
 use Rattle.feats_answers.specs.AnswerViews.{answer_text}
-use Rattle.policy_answers.specs.WarningViews.{string_texts}
+use Rattle.feats_check.specs.checking.WarningViews.{string_texts}
 use Rattle.feats_tool.specs.Answers.{AnsweredText}
 use Rattle.feats_tool.specs.declared.answered.Answered.{Answered}
 

@@ -6,7 +6,7 @@ use Rattle.feats_words.specs.Requests.{QuestionText, check}
 use Rattle.policies.specs.Policies.{ArePolicy, IsPolicyFault}
 use Rattle.policies.specs.Rules.{RuleText}
 use Rattle.policies.specs.declared.fault.PolicyFault.{PolicyFault}
-use Rattle.policy_lines.specs.Messages.{IsPolicyMessage}
+use Rattle.feats_check.specs.texts.Messages.{IsPolicyMessage}
 
 -- The rules of the bytes of the policy's file; none, if the question names no policy.
 abbrev pub AreRules : QuestionText → Text → List RuleText → Type 0

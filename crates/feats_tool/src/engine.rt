@@ -3,7 +3,7 @@ ghost use Rattle.std.specs.Prelude.{◌≡◌, false, not, IfOk, OnOk, IfErr};
 ghost use Rattle.std.specs.Io.KnownBytes.{IsAtEnd};
 ghost use Rattle.feats_plans.specs.Inputs.{inputs_text};
 ghost use Rattle.feats_tool.specs.Run.{Ends, HasAnswer};
-ghost use Rattle.policy_answers.specs.WarningViews.{string_texts};
+ghost use Rattle.feats_check.specs.checking.WarningViews.{string_texts};
 
 use crate::answered::{Answered, Outcome};
 use crate::answers::shown;

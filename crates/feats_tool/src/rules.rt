@@ -9,7 +9,7 @@ ghost use Rattle.policies.specs.Views.{rule_text};
 use feats_files::{Fault, refused};
 use feats_words::Question;
 use policies::{PolicyFault, Rule, parse};
-use policy_lines::policy_refused;
+use feats_check::texts::policy_refused;
 use std::alloc::Global;
 use std::str;
 

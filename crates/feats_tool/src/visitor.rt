@@ -7,7 +7,7 @@ ghost use Rattle.feats_plans.specs.PlannedView.{planned_text};
 ghost use Rattle.feats_answers.specs.Answers.{IsAnswerTo, IsNoAnswerTo};
 ghost use Rattle.feats_tool.specs.AnsweredView.{answered_text};
 ghost use Rattle.feats_tool.specs.Answers.{AreRuleWarnings, AreWarnings, IsPlanAnswer, IsPlanRefusal, IsStrictly, asked_by};
-ghost use Rattle.policy_answers.specs.WarningViews.{string_texts};
+ghost use Rattle.feats_check.specs.checking.WarningViews.{string_texts};
 ghost use Rattle.plan_platforms.specs.DeclaredSpecs.{declared_specs};
 ghost use Rattle.plan_platforms.specs.Views.{declared_text};
 ghost use Rattle.policies.specs.Views.{rule_text};
@@ -19,7 +19,7 @@ use feats_plans::{PlanVisitor, Planned};
 use feats_words::Question;
 use lost_dependencies::lost_lines;
 use policies::Rule;
-use policy_answers::{PolicyWords, policy_warnings};
+use feats_check::checking::{PolicyWords, policy_warnings};
 use std::alloc::Global;
 
 /// Returns the warnings about `rules`, those of the policy; none, if the arguments name no policy.

@@ -9,9 +9,9 @@ use Rattle.cargo_plans.specs.plan_starts.PackageVisits.{is_on}
 use Rattle.cargo_plans.specs.plan_steps.Plans.{PlanText}
 use Rattle.cargo_plans.specs.Plans.{WordsText}
 use Rattle.plan_laws.specs.Widening.{IsOffInPlan, IsWidest, NoSelectionTurnsOn}
-use Rattle.plan_widenings.specs.Findings.{are_some, sides_of}
-use Rattle.plan_widenings.specs.Widenings.{widened}
-use Rattle.plan_widenings.specs.declared.widening.Widening.TheVariants as widening
+use Rattle.wider_selections.specs.widenings.Findings.{are_some, sides_of}
+use Rattle.wider_selections.specs.widenings.Widenings.{widened}
+use Rattle.wider_selections.specs.declared.widenings.widening.Widening.TheVariants as widening
 use Rattle.plan_laws.specs.NoChoice.{HoldsEach, NoChoiceTurnsOn}
 use Rattle.plan_laws.proofs.DeclaredSpecs.{left_true, named}
 

@@ -6,18 +6,18 @@ use Rattle.cargo_plans.specs.Plans.{WordsText}
 use Rattle.feats_words.specs.declared.command_arguments.Format.TheVariants as format
 use Rattle.plan_laws.specs.NoChoice.{NoChoiceTurnsOn}
 use Rattle.plan_laws.specs.Sentence.{SentenceIsTrue}
-use Rattle.plan_widenings.specs.Findings.{IsOffEverywhere}
-use Rattle.plan_widenings.specs.Widenings.{widened, widenings}
-use Rattle.plan_widenings.specs.declared.widening.Widening.{Widening}
-use Rattle.plan_widenings.specs.declared.widening.Widening.TheVariants as widening
+use Rattle.wider_selections.specs.widenings.Findings.{IsOffEverywhere}
+use Rattle.wider_selections.specs.widenings.Widenings.{widened, widenings}
+use Rattle.wider_selections.specs.declared.widenings.widening.Widening.{Widening}
+use Rattle.wider_selections.specs.declared.widenings.widening.Widening.TheVariants as widening
 use Rattle.why_nots.specs.Answers.{AnswerText, IsAnswer, explained, message_in, not_planned, off, unbuilt}
 use Rattle.why_nots.specs.Lines.{said_of}
 use Rattle.why_nots.specs.Parts.{PartText, title_of}
 use Rattle.why_nots.specs.Texts.{IsWhyNotText, head_text}
 use Rattle.why_nots.specs.Tries.{TypedText}
-use Rattle.widening_lines.specs.Laws.{EndsWithLine, SentenceSaysOff}
-use Rattle.widening_lines.specs.Lines.{SaidText, sentence, why_not_lines, widening_lines}
-use Rattle.widening_lines.specs.Lines as said
+use Rattle.wider_selections.specs.texts.Laws.{EndsWithLine, SentenceSaysOff}
+use Rattle.wider_selections.specs.texts.Lines.{SaidText, sentence, why_not_lines, widening_lines}
+use Rattle.wider_selections.specs.texts.Lines as said
 
 same_sections : (f g : Widening → Text) → ((v : Widening) → f v ≡ g v) → (vs : List Widening) → flat_map f vs ≡ flat_map g vs
 same_sections f g same [] = refl

@@ -7,7 +7,7 @@ use Rattle.plan_platforms.specs.HeldSpecs.{is_declared}
 use Rattle.cargo_plans.specs.plan_steps.Plans.{PlanText}
 use Rattle.cargo_plans.specs.Plans.{IsPlanOf, WordsText}
 use Rattle.plan_laws.specs.Widening.{IsCovered, IsOffInPlan}
-use Rattle.plan_widenings.specs.Findings.{IsOffEverywhere}
+use Rattle.wider_selections.specs.widenings.Findings.{IsOffEverywhere}
 
 -- Each platform spec that a declaration of the workspace names holds.
 abbrev pub HoldsEach : WorkspaceText → (Text → Bool) → Type 0

@@ -8,8 +8,8 @@ use Rattle.plan_laws.specs.NoChoice.{HoldsEach}
 use Rattle.plan_laws.specs.Widening.{IsCovered, IsOffInPlan}
 use Rattle.why_nots.specs.Parts.{PartText}
 use Rattle.why_nots.specs.Texts.{IsWhyNotText}
-use Rattle.widening_lines.specs.Laws.{EndsWithLine}
-use Rattle.widening_lines.specs.Lines.{sentence}
+use Rattle.wider_selections.specs.texts.Laws.{EndsWithLine}
+use Rattle.wider_selections.specs.texts.Lines.{sentence}
 
 -- THE SENTENCE IS TRUE: if it is the last line of a text of `why-not`, the text's part is off in each plan by words that those of the command
 -- line cover.

@@ -3,7 +3,7 @@ ghost use Rattle.plan_laws.specs.NoChoice.{NoChoiceTurnsOn};
 ghost use Rattle.plan_laws.specs.Sentence.{SentenceIsTrue};
 
 use crate::laws::no_selection_turns_on;
-use widening_lines::sentence_says_off;
+use wider_selections::texts::sentence_says_off;
 
 /// States that no choice of members, features of members, tests and platforms turns on what is off with all widenings of a command line
 /// together.

@@ -7,9 +7,9 @@ use Rattle.cargo_plans.specs.Plans.{IsPlanOf, WordsText}
 use Rattle.feats_words.specs.declared.command_arguments.Format.{Format}
 use Rattle.feats_words.specs.declared.command_arguments.Format.TheVariants as format
 use Rattle.line_parts.specs.Members.{object_line}
-use Rattle.plan_widenings.specs.Widenings.{widened, widenings}
-use Rattle.plan_widenings.specs.declared.widening.Widening.{Widening}
-use Rattle.widening_lines.specs.Lines.{head_line, widening_lines}
+use Rattle.wider_selections.specs.widenings.Widenings.{widened, widenings}
+use Rattle.wider_selections.specs.declared.widenings.widening.Widening.{Widening}
+use Rattle.wider_selections.specs.texts.Lines.{head_line, widening_lines}
 use Rattle.why_nots.specs.Answers.{AnswerText, IsAnswer, message_in}
 use Rattle.why_nots.specs.Lines.{said_of}
 use Rattle.why_nots.specs.Objects.{answer_tokens, head_tokens}

@@ -6,7 +6,7 @@ ghost use Rattle.cargo_plans.specs.WordsView.{words_text};
 ghost use Rattle.cargo_plans.specs.plan_steps.PlanViews.{plan_text};
 ghost use Rattle.cargo_workspaces.specs.WorkspaceView.{workspace_text};
 ghost use Rattle.plan_platforms.specs.HeldSpecs.{holds_on};
-ghost use Rattle.plan_widenings.specs.Widenings as spec;
+ghost use Rattle.wider_selections.specs.widenings.Widenings as spec;
 ghost use Rattle.why_nots.specs.PartView.{part_text};
 ghost use Rattle.why_nots.specs.Texts.{IsSection};
 ghost use Rattle.why_nots.specs.inner.Lists.{texts_of};
@@ -17,7 +17,7 @@ use cargo_plans::{Plan, PlanWords};
 use cargo_workspaces::Workspace;
 use feats_words::Format;
 use plan_platforms::HeldSpecs;
-use plan_widenings::{Widening, adds, widened};
+use wider_selections::widenings::{Widening, adds, widened};
 use std::alloc::{AllocError, Global};
 
 /// The build in which parts are off.

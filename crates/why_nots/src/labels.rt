@@ -12,7 +12,7 @@ use cargo_workspaces::Workspace;
 use feature_labels::FeatureLabel;
 use json::Writer;
 use line_parts::{write_member, write_optional};
-use plan_widenings::Widening;
+use wider_selections::widenings::Widening;
 use std::alloc::AllocError;
 
 /// Returns the id of package `ix`; nothing, if there is no such package.

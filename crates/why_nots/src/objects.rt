@@ -24,7 +24,7 @@ use json::Writer;
 use line_parts::{begin_line, end_line, write_flag, write_member, write_optional};
 use plan_platforms::HeldSpecs;
 use plan_whys::WhyStep;
-use plan_widenings::Widening;
+use wider_selections::widenings::Widening;
 use std::alloc::{AllocError, Global};
 use why_lines::write_steps;
 

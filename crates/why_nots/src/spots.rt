@@ -13,7 +13,7 @@ use crate::standings::{Standing, standing_of};
 use cargo_plans::Plan;
 use plan_rows::Side;
 use plan_whys::Spot;
-use plan_widenings::sides_of;
+use wider_selections::widenings::sides_of;
 use std::alloc::{AllocError, Global};
 
 /// Returns `part` on the side on which it is built; on the target side, if it isn't.

@@ -7,8 +7,8 @@ ghost use Rattle.cargo_plans.specs.plan_steps.PlanViews.{plan_text};
 ghost use Rattle.cargo_workspaces.specs.Workspaces.{Text};
 ghost use Rattle.cargo_workspaces.specs.WorkspaceView.{workspace_text};
 ghost use Rattle.plan_platforms.specs.HeldSpecs.{holds_on};
-ghost use Rattle.plan_widenings.specs.Widenings.{widened};
-ghost use Rattle.widening_lines.specs.Lines.{head_line};
+ghost use Rattle.wider_selections.specs.widenings.Widenings.{widened};
+ghost use Rattle.wider_selections.specs.texts.Lines.{head_line};
 ghost use Rattle.why_nots.specs.PartView.{part_text};
 ghost use Rattle.why_nots.specs.Texts as spec;
 ghost use Rattle.why_nots.specs.Typed as words_to_type;
@@ -23,9 +23,9 @@ use cargo_plans::{Plan, PlanWords};
 use cargo_workspaces::Workspace;
 use feats_words::Format;
 use plan_platforms::HeldSpecs;
-use plan_widenings::Widening;
+use wider_selections::widenings::Widening;
 use std::alloc::{AllocError, Global};
-use widening_lines::push_head;
+use wider_selections::texts::push_head;
 
 /// Returns the line that says that `name` is off, or the message about it.
 fn head_line_of(alloc: Global, name: &str, message: Option<&str>) -> Result<Vec<u8>, AllocError>

@@ -28,7 +28,7 @@ use cargo_workspaces::Workspace;
 use feats_words::Format;
 use plan_platforms::HeldSpecs;
 use plan_whys::why_each;
-use plan_widenings::Widening;
+use wider_selections::widenings::Widening;
 use std::alloc::{AllocError, Global};
 
 /// Returns the sections about `widening`, whose words are `words`, and the part of each of `tolds`.

@@ -9,7 +9,7 @@ use Rattle.plan_platforms.specs.HeldSpecs.{holds_on}
 use Rattle.plan_platforms.specs.Views.{declared_text}
 use Rattle.plan_platforms.specs.declared.holding.HeldSpecs.{HeldSpecs}
 use Rattle.cargo_plans.specs.plan_steps.PlanViews.{plan_text}
-use Rattle.policy_answers.specs.Answers.{IsPolicyAnswer, IsPolicyRefusal}
+use Rattle.feats_check.specs.checking.Answers.{IsPolicyAnswer, IsPolicyRefusal}
 use Rattle.feats_answers.specs.AnswerViews.{answer_text}
 use Rattle.feats_answers.specs.Asked.{asked_text}
 use Rattle.feats_answers.specs.PolicyTexts.{IsCheckRefusal, policy_question, printed}

@@ -1,5 +1,5 @@
 use Rattle.std.proofs.Common.{map}
-use Rattle.difference_lines.specs.Views.{difference_text}
+use Rattle.feats_diff.specs.texts.Views.{difference_text}
 use Rattle.feats_differences.proofs.ShownLists.{shown_all}
 use Rattle.feats_differences.proofs.answers.all_shown.Goals as goal
 

@@ -1,7 +1,7 @@
 use Rattle.std.proofs.Common.{◌≡◌, ◌++◌, map, drop}
 use Rattle.feats_differences.specs.Builds.{parts_from}
 use Rattle.feats_differences.specs.Views.{build_text}
-use Rattle.plan_differences.specs.Views.{part_text}
+use Rattle.feats_diff.specs.changes.Views.{part_text}
 use Rattle.cargo_plans.specs.plan_units.UnitViews.{unit_text}
 use Rattle.feats_differences.proofs.parts.parts_of.Given as goal
 

@@ -1,8 +1,8 @@
 use Rattle.std.proofs.Common.{◌≡◌, ◌++◌, map, drop}
 use Rattle.std.specs.String.{string_bytes}
-use Rattle.difference_lines.specs.Views.{difference_text}
+use Rattle.feats_diff.specs.texts.Views.{difference_text}
 use Rattle.feats_differences.specs.Shown.{comes_from}
-use Rattle.plan_differences.specs.Views.{part_text}
+use Rattle.feats_diff.specs.changes.Views.{part_text}
 use Rattle.feats_differences.proofs.shown.push_comes.Given as goal
 
 abbrev pub invariant-loop-number : goal.invariant-loop-number

@@ -1,8 +1,8 @@
 use Rattle.std.proofs.Common.{◌≡◌, ◌++◌, map, drop}
-use Rattle.difference_lines.specs.Shown.{gone}
-use Rattle.difference_lines.specs.Views.{difference_text}
+use Rattle.feats_diff.specs.texts.Shown.{gone}
+use Rattle.feats_diff.specs.texts.Views.{difference_text}
 use Rattle.feats_differences.specs.Shown.{shown_of}
-use Rattle.plan_differences.specs.Views.{part_text}
+use Rattle.feats_diff.specs.changes.Views.{part_text}
 use Rattle.feats_differences.proofs.shown.push_gone.Given as goal
 
 abbrev pub invariant-loop-part : goal.invariant-loop-part

@@ -1,7 +1,7 @@
 use Rattle.std.proofs.Common.{◌≡◌, ◌++◌, map, drop}
 use Rattle.std.specs.String.{string_bytes}
 use Rattle.cargo_workspaces.specs.Views.{texts}
-use Rattle.difference_lines.specs.Views.{turned_text}
+use Rattle.feats_diff.specs.texts.Views.{turned_text}
 use Rattle.feats_differences.specs.Shown.{turned_from}
 use Rattle.feats_differences.proofs.shown.turned_of.Given as goal
 

@@ -1,7 +1,7 @@
 use Rattle.std.proofs.Common.{◌≡◌, ◌++◌, flat_map, map, drop}
 use Rattle.feats_differences.specs.Views.{build_text}
 use Rattle.feats_differences.specs.Whys.{feature_spots}
-use Rattle.plan_differences.specs.Views.{change_text}
+use Rattle.feats_diff.specs.changes.Views.{change_text}
 use Rattle.plan_whys.specs.StepViews.{spot_text}
 use Rattle.feats_differences.proofs.whys.feature_spots.Given as goal
 

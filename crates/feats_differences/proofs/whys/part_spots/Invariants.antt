@@ -1,7 +1,7 @@
 use Rattle.std.proofs.Common.{◌≡◌, ◌++◌, map, drop}
 use Rattle.feats_differences.specs.Views.{build_text}
 use Rattle.feats_differences.specs.Whys.{part_spots}
-use Rattle.plan_differences.specs.Views.{part_text}
+use Rattle.feats_diff.specs.changes.Views.{part_text}
 use Rattle.plan_whys.specs.StepViews.{spot_text}
 use Rattle.feats_differences.proofs.whys.part_spots.Given as goal
 

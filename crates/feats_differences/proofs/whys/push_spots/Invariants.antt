@@ -3,7 +3,7 @@ use Rattle.cargo_workspaces.specs.Views.{texts}
 use Rattle.feature_labels.specs.Names.LabelName.{named}
 use Rattle.feats_differences.specs.Views.{build_text}
 use Rattle.feats_differences.specs.Whys.{spot_of}
-use Rattle.plan_differences.specs.Views.{part_text}
+use Rattle.feats_diff.specs.changes.Views.{part_text}
 use Rattle.plan_whys.specs.StepViews.{spot_text}
 use Rattle.feats_differences.proofs.whys.push_spots.Given as goal
 

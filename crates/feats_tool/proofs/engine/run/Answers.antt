@@ -1,6 +1,6 @@
 use Rattle.feats_answers.specs.AnswerViews.{answer_text}
 use Rattle.feats_plans.specs.Inputs.{inputs_text}
-use Rattle.policy_answers.specs.WarningViews.{string_texts}
+use Rattle.feats_check.specs.checking.WarningViews.{string_texts}
 use Rattle.feats_tool.proofs.Writing.{is_shown}
 use Rattle.feats_tool.proofs.engine.run.Goals as goal
 

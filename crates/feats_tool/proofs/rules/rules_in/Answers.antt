@@ -1,7 +1,7 @@
 use Rattle.std.proofs.Common.{subst}
 use Rattle.cargo_workspaces.specs.Workspaces.{Text}
 use Rattle.policies.specs.Policies.{IsPolicyFault}
-use Rattle.policy_lines.specs.Messages.{IsPolicyMessage}
+use Rattle.feats_check.specs.texts.Messages.{IsPolicyMessage}
 use Rattle.feats_plans.proofs.Says.{says_more}
 use Rattle.feats_tool.specs.Rules.{IsFileRefusal, malformed}
 use Rattle.feats_tool.proofs.rules.rules_in.Goals as goal

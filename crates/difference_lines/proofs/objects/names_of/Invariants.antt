@@ -1,8 +1,0 @@
-use Rattle.std.proofs.Common.{◌≡◌, ◌++◌, map, drop}
-use Rattle.cargo_workspaces.specs.Views.{texts}
-use Rattle.difference_lines.specs.Views.{turned_text}
-use Rattle.difference_lines.proofs.objects.names_of.Given as goal
-
-abbrev pub invariant-loop-one : goal.invariant-loop-one
-invariant-loop-one l =
-    map (λ t. t.name) (map turned_text l.comes) ≡ texts l.names.items ++ map (λ t. t.name) (map turned_text (drop l.one-index l.comes))

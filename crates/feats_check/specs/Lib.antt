@@ -1,0 +1,2 @@
+pub mod texts
+pub mod checking

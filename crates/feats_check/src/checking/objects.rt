@@ -1,0 +1,117 @@
+//! Broken rules as JSON objects.
+ghost use Rattle.std.specs.Prelude.{◌≡◌, ◌++◌, ◌∷◌, IfOk, OnOk, flat_map, map};
+ghost use Rattle.cargo_plans.specs.WordsView.{words_text};
+ghost use Rattle.cargo_workspaces.specs.WorkspaceView.{workspace_text};
+ghost use Rattle.json.specs.Token.{begin_object};
+ghost use Rattle.line_parts.specs.Members.{Appends, object_line};
+ghost use Rattle.plan_platforms.specs.HeldSpecs.{holds_on};
+ghost use Rattle.plan_whys.specs.StepViews.{found_text, why_text};
+ghost use Rattle.policies.specs.Views.{rule_text};
+ghost use Rattle.feats_check.specs.checking.Whys as spec;
+ghost use Rattle.feats_check.specs.texts.Objects.{rule_members};
+
+use crate::checking::planned::Planned;
+use crate::checking::settings::settings_of;
+use cargo_plans::PlanWords;
+use cargo_workspaces::Workspace;
+use json::Writer;
+use line_parts::{begin_line, end_line};
+use plan_platforms::HeldSpecs;
+use plan_whys::WhyStep;
+use policies::Rule;
+use crate::texts::write_rule;
+use std::alloc::{AllocError, Global};
+use why_lines::write_steps;
+
+/// Writes the objects of `steps`.
+fn write_objects(
+    alloc: Global,
+    writer: &mut Writer,
+    workspace: &Workspace<'_>,
+    words: &PlanWords<'_, '_, HeldSpecs<'_>>,
+    steps: &[WhyStep<'_>],
+) -> Result<(), AllocError>
+    ensures { OnOk result (Appends writer.old writer.new (spec.steps_tokens (workspace_text workspace.now).packages (words_text holds_on words.now) (map why_text steps.now))) }
+{
+    write_steps(alloc, writer, workspace, &settings_of(words), steps)
+}
+
+/// Writes the array of the objects of `steps`.
+fn write_array(
+    alloc: Global,
+    writer: &mut Writer,
+    workspace: &Workspace<'_>,
+    words: &PlanWords<'_, '_, HeldSpecs<'_>>,
+    steps: &[WhyStep<'_>],
+) -> Result<(), AllocError>
+    ensures { OnOk result (Appends writer.old writer.new (spec.steps_array (workspace_text workspace.now).packages (words_text holds_on words.now) (map why_text steps.now))) }
+{
+    writer.begin_array()?;
+    write_objects(alloc, writer, workspace, words, steps)?;
+    writer.end_array()
+}
+
+/// Writes the array of `found`, or nothing if no steps were found.
+fn write_found(
+    alloc: Global,
+    writer: &mut Writer,
+    workspace: &Workspace<'_>,
+    words: &PlanWords<'_, '_, HeldSpecs<'_>>,
+    found: &Option<Vec<WhyStep<'_>>>,
+) -> Result<(), AllocError>
+    ensures { OnOk result (Appends writer.old writer.new (spec.found_array (workspace_text workspace.now).packages (words_text holds_on words.now) (found_text found.now))) }
+{
+    match found {
+        Some(steps) => write_array(alloc, writer, workspace, words, steps),
+        None => Ok(()),
+    }
+}
+
+/// Writes the array of each of `founds`.
+fn write_founds(
+    alloc: Global,
+    writer: &mut Writer,
+    workspace: &Workspace<'_>,
+    words: &PlanWords<'_, '_, HeldSpecs<'_>>,
+    founds: &[Option<Vec<WhyStep<'_>>>],
+) -> Result<(), AllocError>
+    ensures { OnOk result (Appends writer.old writer.new (flat_map (spec.found_array (workspace_text workspace.now).packages (words_text holds_on words.now)) (map found_text founds.now))) }
+{
+    for found in founds {
+        write_found(alloc, writer, workspace, words, found)?;
+    }
+    Ok(())
+}
+
+/// Writes the member `whys`, with an array for each of `founds`.
+fn write_whys(
+    alloc: Global,
+    writer: &mut Writer,
+    workspace: &Workspace<'_>,
+    words: &PlanWords<'_, '_, HeldSpecs<'_>>,
+    founds: &[Option<Vec<WhyStep<'_>>>],
+) -> Result<(), AllocError>
+    ensures { OnOk result (Appends writer.old writer.new (spec.whys_member (workspace_text workspace.now).packages (words_text holds_on words.now) (map found_text founds.now))) }
+{
+    writer.key("whys")?;
+    writer.begin_array()?;
+    write_founds(alloc, writer, workspace, words, founds)?;
+    writer.end_array()
+}
+
+/// Returns the line with the object of the rule `rule`, which the plan of `planned` breaks, and with `founds`, which explain what breaks it.
+pub(crate) fn rule_object(
+    alloc: Global,
+    workspace: &Workspace<'_>,
+    planned: Planned<'_, '_, '_, '_, '_>,
+    rule: Rule<'_>,
+    founds: &[Option<Vec<WhyStep<'_>>>],
+) -> Result<Vec<u8>, AllocError>
+    ensures { IfOk result (λ line. line.items ≡ object_line (begin_object ∷ (rule_members planned.entry.judged (rule_text rule.entry)
+        ++ spec.whys_member (workspace_text workspace.now).packages (words_text holds_on planned.entry.words.now) (map found_text founds.now)))) }
+{
+    let mut writer = begin_line(Vec::new(alloc))?;
+    write_rule(&mut writer, planned.judged, rule)?;
+    write_whys(alloc, &mut writer, workspace, planned.words, founds)?;
+    end_line(writer)
+}

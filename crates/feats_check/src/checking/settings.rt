@@ -1,0 +1,25 @@
+//! The settings of explanations.
+ghost use Rattle.std.specs.Prelude.{◌≡◌};
+ghost use Rattle.cargo_plans.specs.WordsView.{words_text};
+ghost use Rattle.plan_platforms.specs.HeldSpecs.{holds_on};
+ghost use Rattle.feats_check.specs.checking.Whys as spec;
+ghost use Rattle.why_lines.specs.Settings.{settings_text};
+
+use cargo_plans::PlanWords;
+use plan_platforms::HeldSpecs;
+use why_lines::WhySettings;
+
+/// Returns the settings of the lines that explain a plan for `words`.
+pub(crate) fn settings_of<'n, 's>(
+    words: &PlanWords<'_, 'n, HeldSpecs<'s>>,
+) -> WhySettings<'n, HeldSpecs<'s>>
+    ensures { settings_text holds_on result ≡ spec.settings_of (words_text holds_on words.now) }
+{
+    WhySettings {
+        split: words.selection.split,
+        test: words.test,
+        host: words.host,
+        targets: words.targets,
+        sides: words.selection.split,
+    }
+}

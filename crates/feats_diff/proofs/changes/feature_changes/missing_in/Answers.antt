@@ -1,0 +1,7 @@
+use Rattle.std.proofs.Common.{◌∙◌}
+use Rattle.cargo_workspaces.specs.Views.{texts}
+use Rattle.feats_diff.proofs.changes.Names.{ok_with, those_not_in}
+use Rattle.feats_diff.proofs.changes.feature_changes.missing_in.Goals as goal
+
+pub returns : goal.returns
+returns c = ok_with _ _ c.missing.result c.missing.ensures (λ found is. is ∙ those_not_in c.in_ok-set.set (texts c.args.other.now.features.now) c.args.part.now.features.now c.in_ok-set.ensures)

@@ -1,0 +1,9 @@
+use Rattle.std.proofs.Common.{◌≡◌, ◌++◌, map, drop}
+use Rattle.line_parts.specs.Views.{row_text}
+use Rattle.feats_list.specs.features.Lines.{row_of}
+use Rattle.feats_list.specs.features.inner.Listed.{listed_text}
+use Rattle.feats_list.proofs.features.lines.table.Given as goal
+
+abbrev pub invariant-loop-one : goal.invariant-loop-one
+invariant-loop-one l =
+    map (row_of l.two) (map listed_text l.list) ≡ map row_text l.rows.items ++ map (row_of l.two) (map listed_text (drop l.one-index l.list))

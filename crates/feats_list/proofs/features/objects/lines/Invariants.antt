@@ -1,0 +1,9 @@
+use Rattle.std.proofs.Common.{◌≡◌, ◌++◌, flat_map, map, drop}
+use Rattle.cargo_workspaces.specs.Views.{package_text}
+use Rattle.feats_list.specs.features.Objects.{line_of}
+use Rattle.feats_list.specs.features.inner.Listed.{listed_text}
+use Rattle.feats_list.proofs.features.objects.lines.Given as goal
+
+abbrev pub invariant-loop-one : goal.invariant-loop-one
+invariant-loop-one l =
+    flat_map (line_of (package_text l.«package»)) (map listed_text l.list) ≡ l.text.items ++ flat_map (line_of (package_text l.«package»)) (map listed_text (drop l.one-index l.list))

@@ -1,0 +1,6 @@
+use Rattle.feats_list.proofs.features.Tokens.{appended, on_ok}
+use Rattle.feats_list.proofs.features.objects.write_package.Goals as goal
+
+pub returns : goal.returns
+returns c = on_ok c.write_member-3.result c.write_member-3.ensures (λ last.
+    appended _ _ _ _ _ c.in_ok-write_member.ensures (appended _ _ _ _ _ c.in_ok-write_member-2.ensures last))

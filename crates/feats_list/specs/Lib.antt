@@ -1,0 +1,2 @@
+pub mod platforms
+pub mod features

@@ -1,0 +1,5 @@
+use Rattle.feats_slim.proofs.answers.Tokens.{appended, on_ok}
+use Rattle.feats_slim.proofs.answers.objects.write_out.Goals as goal
+
+pub returns : goal.returns
+returns c = on_ok c.write_optional.result c.write_optional.ensures (λ last. appended _ _ _ _ _ c.in_ok-write_member.ensures last)

@@ -1,0 +1,9 @@
+use Rattle.std.proofs.Common.{◌≡◌, ◌++◌, ℕ, map, drop}
+use Rattle.plan_units.specs.UnitViews.{unit_text}
+use Rattle.feats_slim.specs.edits.Losses.{places_of}
+use Rattle.feats_slim.specs.edits.inner.Groups.{group_at, lists_text}
+use Rattle.feats_slim.proofs.edits.places.places_by_package.Given as goal
+
+abbrev pub invariant-loop-unit : goal.invariant-loop-unit
+invariant-loop-unit l =
+    (q : ℕ) → places_of (map unit_text l.units) q ≡ lists_text (group_at l.groups q) ++ places_of (map unit_text (drop l.unit-index l.units)) q

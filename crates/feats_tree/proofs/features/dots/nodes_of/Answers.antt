@@ -1,0 +1,14 @@
+use Rattle.std.proofs.Common.{ap, inl, inr, map}
+use Rattle.std.proofs.lemmas.List.{nil_from_length}
+use Rattle.std.specs.String.{string_bytes}
+use Rattle.feats_tree.proofs.packages.Zips.{first_ended, second_ended}
+use Rattle.plan_whys.specs.StepViews.{spot_text}
+use Rattle.feats_tree.specs.features.Dots.{node_of}
+use Rattle.feats_tree.proofs.features.dots.nodes_of.Goals as goal
+
+pub returns : goal.returns
+returns c =
+    elim c.in-None.ensures.steps [
+      | inl e ↦ first_ended node_of _ _ _ _ c.loop-spot.invariant (ap (map spot_text) (nil_from_length _ e.1.0))
+      | inr e ↦ second_ended node_of _ _ _ _ c.loop-spot.invariant (ap (map string_bytes) (nil_from_length _ e.1.0))
+    ]

@@ -1,0 +1,64 @@
+-- What the parts of a text show of a plan.
+use Rattle.std.proofs.Common.{◌≡◌, ◌∙◌, ℕ, List, Option, Result, ap, ap₂, length, map, subst}
+use Rattle.std.specs.Prelude.{IfOk}
+use Rattle.std.specs.Global.{Vec}
+use Rattle.std.proofs.lemmas.Result.{IfOk-weaker}
+use Rattle.cargo_workspaces.specs.Workspaces.{PackageText, Text}
+use Rattle.feats_words.specs.declared.command_arguments.Format.{Format}
+use Rattle.link_trees.specs.Branches.{AreBranches}
+use Rattle.link_trees.specs.Titles.{TitleText}
+use Rattle.link_trees.specs.declared.trees.Branch.{Branch}
+use Rattle.plan_dots.specs.Dots.{NodeText, dot_text}
+use Rattle.plan_links.specs.UnitLinks.{AreUnitLinks, root_units}
+use Rattle.plan_steps.specs.Plans.{PlanText}
+use Rattle.plan_steps.specs.plan_units.Units.{UnitText}
+use Rattle.feats_tree.specs.packages.Dots.{IsPackageDot, clusters, dot_of, nodes_with}
+use Rattle.feats_tree.specs.packages.Titles.{unit_title, unit_titles}
+use Rattle.feats_tree.specs.packages.Trees.{AreTurned, IsInvertedTree, IsPackageTree, IsTreeText, branches_text, units_of}
+
+module _ {E : Type 0} (r : Result (Vec ℕ) E) where
+  -- Graphs.
+
+  pub graph_of : (names : List Text) (units : List UnitText) (titles : List Text) (links : List (ℕ × ℕ)) (count : ℕ) (labels : List Text) (nodes : List NodeText) → labels ≡ clusters names → nodes ≡ nodes_with count units titles → count ≡ length names
+      → IfOk r (λ text. text.items ≡ dot_text labels nodes links) → IfOk r (λ text. text.items ≡ dot_of names units titles links)
+  graph_of names units titles links count labels nodes labels_are nodes_are long is =
+      let all : nodes ≡ nodes_with (length names) units titles = nodes_are ∙ ap (λ n. nodes_with n units titles) long in
+      subst (λ ns. IfOk r (λ text. text.items ≡ dot_text (clusters names) ns links)) all (subst (λ ls. IfOk r (λ text. text.items ≡ dot_text ls nodes links)) labels_are is)
+
+  pub package_graph : (names : List Text) (packages : List PackageText) (plan : PlanText) (units : List UnitText) (titles : List Text) (links : List (ℕ × ℕ)) → AreUnitLinks plan links → units ≡ plan.units → titles ≡ map (unit_title names packages) plan.units
+      → IfOk r (λ text. text.items ≡ dot_of names units titles links) → IfOk r (λ text. IsPackageDot names packages plan text.items)
+  package_graph names packages plan units titles links are units_are titles_are is =
+      IfOk-weaker r _ _ (λ text same. record { links = links; are_links = are; is_text = same ∙ ap₂ (λ us ts. dot_of names us ts links) units_are titles_are }) is
+
+  -- Trees.
+
+  pub tree_by : (form : Format) (links : List (ℕ × ℕ)) (roots : List ℕ) (limit : Option ℕ) (titles : List TitleText) (branches taken : List Branch) → AreBranches links roots limit branches → taken ≡ branches
+      → IfOk r (λ text. text.items ≡ branches_text form titles taken) → IfOk r (λ text. IsTreeText form links roots limit titles text.items)
+  tree_by form links roots limit titles branches taken are same is =
+      IfOk-weaker r _ _ (λ text shown. record { branches = branches; are_branches = are; is_text = shown ∙ ap (branches_text form titles) same }) is
+
+  pub package_trees : (form : Format) (names : List Text) (packages : List PackageText) (plan : PlanText) (limit : Option ℕ) (links : List (ℕ × ℕ)) (roots : List ℕ) (ns : List Text) (ps : List PackageText) (us : List UnitText)
+      → AreUnitLinks plan links → roots ≡ root_units plan → ns ≡ names → ps ≡ packages → us ≡ plan.units
+      → IfOk r (λ text. IsTreeText form links roots limit (unit_titles ns ps us) text.items) → IfOk r (λ text. IsPackageTree form names packages plan limit text.items)
+  package_trees form names packages plan limit links roots ns ps us are roots_are names_are packages_are units_are is =
+      IfOk-weaker r _ _ (λ text shown. record {
+        links = links;
+        are_links = are;
+        is_text =
+            subst (λ ts. IsTreeText form links (root_units plan) limit ts text.items) (λ i. unit_titles (names_are i) (packages_are i) (units_are i))
+            (subst (λ rs. IsTreeText form links rs limit (unit_titles ns ps us) text.items) roots_are shown);
+      }) is
+
+  pub inverted_trees : (form : Format) (names : List Text) (packages : List PackageText) (plan : PlanText) (p : ℕ) (limit : Option ℕ) (links turned_links : List (ℕ × ℕ)) (roots : List ℕ) (ns : List Text) (ps : List PackageText) (us : List UnitText)
+      → AreUnitLinks plan links → AreTurned links turned_links → roots ≡ units_of p plan.units → ns ≡ names → ps ≡ packages → us ≡ plan.units
+      → IfOk r (λ text. IsTreeText form turned_links roots limit (unit_titles ns ps us) text.items) → IfOk r (λ text. IsInvertedTree form names packages plan p limit text.items)
+  inverted_trees form names packages plan p limit links turned_links roots ns ps us are turned roots_are names_are packages_are units_are is =
+      IfOk-weaker r _ _ (λ text shown. record {
+        links = links;
+        are_links = are;
+        turned_links = turned_links;
+        are_turned = turned;
+        is_text =
+            subst (λ ts. IsTreeText form turned_links (units_of p plan.units) limit ts text.items) (λ i. unit_titles (names_are i) (packages_are i) (units_are i))
+            (subst (λ rs. IsTreeText form turned_links rs limit (unit_titles ns ps us) text.items) roots_are shown);
+      }) is

@@ -1,0 +1,13 @@
+use Rattle.std.proofs.Common.{map, subst, sym}
+use Rattle.link_trees.specs.Branches.{AreTrees}
+use Rattle.link_trees.specs.Titles.{title_text}
+use Rattle.feats_tree.proofs.packages.Shown.{tree_by}
+use Rattle.feats_tree.proofs.packages.tree_texts.tree_text.Goals as goal
+
+pub branches_text-requires : goal.branches_text-requires
+branches_text-requires c = subst AreTrees (sym c.deref.ensures.value) c.in_ok-branches.ensures.branches.are_trees
+
+pub returns : goal.returns
+returns c =
+    tree_by c.branches_text.result c.args.form c.args.links.now c.args.roots.now c.args.limit (map title_text c.args.titles.now) c.in_ok-branches.branches.items c.deref.result.now
+    c.in_ok-branches.ensures.branches c.deref.ensures.value c.branches_text.ensures

@@ -1,0 +1,7 @@
+pub mod Dots
+pub mod Links
+pub mod Roots
+pub mod Titles
+pub mod Trees
+pub mod inner
+pub use Rattle.feats_tree.specs.packages as plan_trees

@@ -1,0 +1,13 @@
+//! Trees and graphs of the features that are on in a plan.
+
+mod commands;
+mod dots;
+mod keys;
+mod links;
+mod roots;
+mod titles;
+mod trees;
+
+pub use dots::feature_dot;
+pub use crate::packages::{inverted_package_tree, package_dot, package_tree};
+pub use trees::{feature_tree, inverted_feature_tree};

@@ -1,0 +1,89 @@
+//! The text of trees.
+ghost use Rattle.std.specs.Prelude.{◌≡◌, IfOk, map, string_bytes};
+ghost use Rattle.cargo_workspaces.specs.Views.{package_text, texts};
+ghost use Rattle.link_trees.specs.Branches.{AreTrees};
+ghost use Rattle.link_trees.specs.Titles.{title_text};
+ghost use Rattle.plan_steps.specs.plan_units.UnitViews.{unit_text};
+ghost use Rattle.feats_tree.specs.packages.Titles.{titles_with as titles_by, unit_titles};
+ghost use Rattle.feats_tree.specs.packages.Trees as spec;
+
+use crate::packages::ids::{ids_of, titles_with};
+use crate::packages::titles::titles_of;
+use cargo_workspaces::Package;
+use feats_words::Format;
+use link_trees::{Branch, Title, branch_lines, branch_objects, branches};
+use plan_steps::Unit;
+use std::alloc::{AllocError, Global};
+
+/// Returns the text of `branches`.
+fn branches_text(
+    alloc: Global,
+    form: Format,
+    branches: &[Branch],
+    titles: &[Title<'_>],
+) -> Result<Vec<u8>, AllocError>
+    requires { AreTrees branches.now }
+    ensures { IfOk result (λ text. text.items ≡ spec.branches_text form (map title_text titles.now) branches.now) }
+{
+    match form {
+        Format::Text => Ok(branch_lines(alloc, branches, titles)?.into_bytes()),
+        Format::Json => branch_objects(alloc, branches, titles),
+    }
+}
+
+/// Returns the text of the trees of `roots`.
+fn tree_text(
+    alloc: Global,
+    form: Format,
+    links: &[(usize, usize)],
+    roots: &[usize],
+    limit: Option<usize>,
+    titles: &[Title<'_>],
+) -> Result<Vec<u8>, AllocError>
+    ensures { IfOk result (λ text. spec.IsTreeText form links.now roots.now limit (map title_text titles.now) text.items) }
+{
+    let branches = branches(alloc, links, roots, limit)?;
+    branches_text(alloc, form, &branches, titles)
+}
+
+/// Returns the text of the trees of `roots` over `links`, or their JSON objects. Node number `k` has the title and the id with this number.
+/// Nothing is deeper than `limit`. An allocation's failure is the only error.
+pub fn titled_text(
+    alloc: Global,
+    form: Format,
+    links: &[(usize, usize)],
+    roots: &[usize],
+    limit: Option<usize>,
+    titles: &[String],
+    ids: &[&str],
+) -> Result<Vec<u8>, AllocError>
+    ensures { IfOk result (λ text. spec.IsTreeText form links.now roots.now limit (titles_by (map string_bytes titles.now) (texts ids.now)) text.items) }
+{
+    let titles = titles_with(alloc, titles, ids)?;
+    tree_text(alloc, form, links, roots, limit, &titles)
+}
+
+/// What is shown of units.
+#[derive(Clone, Copy)]
+pub(crate) struct UnitTitles<'u, 'v, 'w> {
+    /// The names of the target platforms.
+    pub(crate) names: &'u [&'u str],
+    pub(crate) packages: &'u [Package<'v>],
+    pub(crate) units: &'u [Unit<'w>],
+}
+
+/// Returns the text of the trees of `roots`, whose nodes are units.
+pub(crate) fn unit_tree(
+    alloc: Global,
+    form: Format,
+    links: &[(usize, usize)],
+    roots: &[usize],
+    limit: Option<usize>,
+    shown: UnitTitles<'_, '_, '_>,
+) -> Result<Vec<u8>, AllocError>
+    ensures { IfOk result (λ text. spec.IsTreeText form links.now roots.now limit (unit_titles (texts shown.entry.names.now) (map package_text shown.entry.packages.now) (map unit_text shown.entry.units.now)) text.items) }
+{
+    let titles = titles_of(alloc, shown.names, shown.packages, shown.units)?;
+    let ids = ids_of(alloc, shown.packages, shown.units)?;
+    titled_text(alloc, form, links, roots, limit, &titles, &ids)
+}

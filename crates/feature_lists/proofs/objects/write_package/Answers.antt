@@ -1,6 +1,0 @@
-use Rattle.feature_lists.proofs.Tokens.{appended, on_ok}
-use Rattle.feature_lists.proofs.objects.write_package.Goals as goal
-
-pub returns : goal.returns
-returns c = on_ok c.write_member-3.result c.write_member-3.ensures (λ last.
-    appended _ _ _ _ _ c.in_ok-write_member.ensures (appended _ _ _ _ _ c.in_ok-write_member-2.ensures last))

@@ -1,6 +1,0 @@
-use Rattle.std.proofs.Common.{◌∙◌}
-use Rattle.feature_trees.proofs.KeyLemmas.{all_found}
-use Rattle.feature_trees.proofs.roots.wanted_spots.Goals as goal
-
-pub returns : goal.returns
-returns c = c.in_ok-roots.ensures ∙ all_found c.in_ok-keys.keys c.args.wanted.now c.args.spots.now c.in_ok-keys.ensures

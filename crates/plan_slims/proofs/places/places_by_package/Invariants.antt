@@ -1,9 +1,0 @@
-use Rattle.std.proofs.Common.{◌≡◌, ◌++◌, ℕ, map, drop}
-use Rattle.plan_units.specs.UnitViews.{unit_text}
-use Rattle.plan_slims.specs.Losses.{places_of}
-use Rattle.plan_slims.specs.inner.Groups.{group_at, lists_text}
-use Rattle.plan_slims.proofs.places.places_by_package.Given as goal
-
-abbrev pub invariant-loop-unit : goal.invariant-loop-unit
-invariant-loop-unit l =
-    (q : ℕ) → places_of (map unit_text l.units) q ≡ lists_text (group_at l.groups q) ++ places_of (map unit_text (drop l.unit-index l.units)) q

@@ -1,8 +1,0 @@
-use Rattle.std.proofs.Common.{◌≡◌, ◌++◌, ◌∷◌, map, drop}
-use Rattle.line_parts.specs.Views.{row_text}
-use Rattle.slim_lines.specs.Lines.{row_of, titles}
-use Rattle.slim_lines.specs.Views.{shown_text}
-use Rattle.slim_lines.proofs.table.rows_of.Given as goal
-
-abbrev pub invariant-loop-one : goal.invariant-loop-one
-invariant-loop-one l = titles ∷ map row_of (map shown_text l.shown) ≡ map row_text l.rows.items ++ map row_of (map shown_text (drop l.one-index l.shown))

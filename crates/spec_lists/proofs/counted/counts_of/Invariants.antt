@@ -1,8 +1,0 @@
-use Rattle.std.proofs.Common.{map, take}
-use Rattle.plan_platforms.specs.Views.{declared_text}
-use Rattle.spec_lists.specs.Lists.{specs_of}
-use Rattle.spec_lists.specs.inner.Counts.{HasCounts}
-use Rattle.spec_lists.proofs.counted.counts_of.Given as goal
-
-abbrev pub invariant-loop-declared : goal.invariant-loop-declared
-invariant-loop-declared l = HasCounts l.counts (specs_of (map declared_text (take l.declared-index l.specs)))

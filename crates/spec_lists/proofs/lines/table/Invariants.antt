@@ -1,9 +1,0 @@
-use Rattle.std.proofs.Common.{◌≡◌, ◌++◌, map, drop}
-use Rattle.line_parts.specs.Views.{row_text}
-use Rattle.spec_lists.specs.Lines.{row_of}
-use Rattle.spec_lists.specs.inner.Listed.{listed_text}
-use Rattle.spec_lists.proofs.lines.table.Given as goal
-
-abbrev pub invariant-loop-one : goal.invariant-loop-one
-invariant-loop-one l =
-    map (row_of l.several) (map listed_text l.list) ≡ map row_text l.rows.items ++ map (row_of l.several) (map listed_text (drop l.one-index l.list))

@@ -1,9 +1,0 @@
-use Rattle.std.proofs.Common.{◌≡◌, ◌++◌, map, drop}
-use Rattle.cargo_workspaces.specs.Views.{texts}
-use Rattle.spec_lists.specs.Lists.{holding}
-use Rattle.spec_lists.specs.Views.{place_text}
-use Rattle.spec_lists.proofs.places.holding.Given as goal
-
-abbrev pub invariant-loop-place : goal.invariant-loop-place
-invariant-loop-place g l =
-    holding (map (place_text g.P.Platform.holds) l.places) l.text ≡ texts l.names.items ++ holding (map (place_text g.P.Platform.holds) (drop l.place-index l.places)) l.text

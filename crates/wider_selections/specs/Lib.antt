@@ -1,0 +1,2 @@
+pub mod widenings
+pub mod texts
