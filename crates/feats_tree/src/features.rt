@@ -8,6 +8,6 @@ mod roots;
 mod titles;
 mod trees;
 
-pub use dots::feature_dot;
 pub use crate::packages::{inverted_package_tree, package_dot, package_tree};
+pub use dots::feature_dot;
 pub use trees::{feature_tree, inverted_feature_tree};

@@ -10,12 +10,12 @@ ghost use Rattle.feats_check.specs.texts.Lines.{verdict_lines};
 
 use crate::checking::planned::Planned;
 use crate::checking::settings::settings_of;
+use crate::texts::push_verdict;
 use cargo_plans::PlanWords;
 use cargo_workspaces::Workspace;
 use plan_platforms::HeldSpecs;
 use plan_whys::WhyStep;
 use policies::Rule;
-use crate::texts::push_verdict;
 use std::alloc::{AllocError, Global};
 use why_lines::why_lines;
 

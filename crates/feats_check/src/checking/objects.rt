@@ -12,6 +12,7 @@ ghost use Rattle.feats_check.specs.texts.Objects.{rule_members};
 
 use crate::checking::planned::Planned;
 use crate::checking::settings::settings_of;
+use crate::texts::write_rule;
 use cargo_plans::PlanWords;
 use cargo_workspaces::Workspace;
 use json::Writer;
@@ -19,7 +20,6 @@ use line_parts::{begin_line, end_line};
 use plan_platforms::HeldSpecs;
 use plan_whys::WhyStep;
 use policies::Rule;
-use crate::texts::write_rule;
 use std::alloc::{AllocError, Global};
 use why_lines::write_steps;
 

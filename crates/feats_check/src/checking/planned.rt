@@ -15,9 +15,9 @@ use cargo_workspaces::Workspace;
 use feats_files::Fault;
 use plan_messages::plan_refused;
 use plan_platforms::HeldSpecs;
-use wider_selections::widenings::{Widening, widened};
 use policy_checks::Judged;
 use std::alloc::Global;
+use wider_selections::widenings::{Widening, widened};
 
 /// A plan, its words, and the build that it is of.
 #[derive(Clone, Copy)]

@@ -12,11 +12,11 @@ ghost use Rattle.feats_check.specs.checking.inner.PlannedViews.{scene_by, scenes
 use crate::checking::broken::text_of_verdicts;
 use crate::checking::planned::{Planned, Wide};
 use crate::checking::question::{PolicyQuestion, PolicyText};
+use crate::texts::check_refused;
 use cargo_workspaces::Workspace;
 use feats_files::Fault;
 use policies::{Rule, RuleKind};
 use policy_checks::{Build, check};
-use crate::texts::check_refused;
 use std::alloc::{AllocError, Global};
 use std::slice;
 

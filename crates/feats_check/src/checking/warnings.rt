@@ -11,6 +11,7 @@ ghost use Rattle.feats_check.specs.checking.WarningViews.{policy_words, string_t
 ghost use Rattle.feats_check.specs.checking.inner.Firsts.{IsFirst, IsNone};
 ghost use Rattle.feats_check.specs.texts.Messages.{unmatched_message};
 
+use crate::texts::{build_message, unmatched_message, unmatched_refused};
 use cargo_plans::PlanWords;
 use cargo_workspaces::Workspace;
 use feats_files::Fault;
@@ -18,7 +19,6 @@ use plan_platforms::HeldSpecs;
 use plan_words::choose;
 use policies::{Rule, RuleKind};
 use policy_checks::unmatched;
-use crate::texts::{build_message, unmatched_message, unmatched_refused};
 use std::alloc::{AllocError, Global};
 
 /// The policy that is checked.

@@ -8,9 +8,9 @@ ghost use Rattle.feats_slim.specs.answers.Lines as spec;
 ghost use Rattle.feats_slim.specs.answers.Views.{shown_text};
 
 use crate::answers::shown::{Shown, ShownPlace};
+use crate::edits::Without;
 use cargo_workspaces::{Declaration, Kind, Package};
 use line_parts::Row;
-use crate::edits::Without;
 use std::alloc::{AllocError, Global};
 
 /// Returns the decimal text of `number`.

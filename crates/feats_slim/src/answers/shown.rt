@@ -6,8 +6,8 @@ ghost use Rattle.feats_slim.specs.answers.Shown as spec;
 ghost use Rattle.feats_slim.specs.answers.Views.{shown_place_text, shown_text};
 ghost use Rattle.workspace_edits.specs.EditViews.{place_text};
 
-use cargo_workspaces::{Declaration, Package};
 use crate::edits::{EditPlace, Slim, Without};
+use cargo_workspaces::{Declaration, Package};
 use std::alloc::{AllocError, Global};
 
 /// What an edit changes, as its line shows it.

@@ -8,9 +8,9 @@ ghost use Rattle.feats_slim.specs.answers.Views.{shown_text};
 
 use crate::answers::rows::{row_of, title_row};
 use crate::answers::shown::{Shown, all_shown};
+use crate::edits::Slim;
 use cargo_workspaces::Package;
 use line_parts::{Row, table_of};
-use crate::edits::Slim;
 use std::alloc::{AllocError, Global};
 
 /// Returns the row of the titles, and one for each of `shown`.

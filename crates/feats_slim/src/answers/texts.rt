@@ -14,11 +14,11 @@ ghost use Rattle.feats_slim.specs.answers.Texts.{IsSlimText};
 
 use crate::answers::objects::slim_objects;
 use crate::answers::table::slim_lines;
+use crate::edits::{Plan, PlanWords, Slim, WordFault, slims_of};
 use cargo_workspaces::{Package, Workspace};
 use feats_words::Format;
 use inherited_dependencies::inheritance_in;
 use plan_rows::Platform;
-use crate::edits::{Plan, PlanWords, Slim, WordFault, slims_of};
 use std::alloc::{AllocError, Global};
 use toml::Value;
 
