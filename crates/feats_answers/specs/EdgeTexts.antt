@@ -6,7 +6,7 @@ use Rattle.feats_files.specs.Files.{FileText}
 use Rattle.feats_words.specs.declared.edges.Edges.{Edges}
 use Rattle.feats_words.specs.declared.edges.Edges.TheVariants as edges
 use Rattle.cargo_plans.specs.plan_steps.Plans.{PlanText}
-use Rattle.feats_tree.specs.features.plan_trees.Dots.{IsPackageDot}
+use Rattle.feats_tree.specs.packages.Dots.{IsPackageDot}
 use Rattle.feats_answers.specs.AnswerTexts.{AnswerText, IsPositive}
 use Rattle.feats_answers.specs.Asked.{AskedText}
 use Rattle.feats_answers.specs.FeatureTexts.{IsFeatureDotAnswer, IsFeatureTreeAnswer, IsFeatureTreeRefusal}

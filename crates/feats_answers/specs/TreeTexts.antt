@@ -5,7 +5,7 @@ use Rattle.feats_files.specs.Files.{FileText}
 use Rattle.feats_words.specs.declared.command_arguments.Format.{Format}
 use Rattle.plan_names.specs.Faults.{package_named}
 use Rattle.cargo_plans.specs.plan_steps.Plans.{PlanText}
-use Rattle.feats_tree.specs.features.plan_trees.Trees.{IsInvertedTree, IsPackageTree}
+use Rattle.feats_tree.specs.packages.Trees.{IsInvertedTree, IsPackageTree}
 use Rattle.feats_answers.specs.AnswerTexts.{AnswerText, IsPositive, negative, positive}
 use Rattle.feats_answers.specs.Gathered.{no_line}
 use Rattle.feats_answers.specs.NameMessages.{IsNameRefusal}

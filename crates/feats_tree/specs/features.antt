@@ -4,4 +4,3 @@ pub mod Roots
 pub mod Titles
 pub mod Trees
 pub mod inner
-pub use Rattle.feats_tree.specs.packages as plan_trees
