@@ -2,10 +2,10 @@
 #![tactic(auto)]
 
 ghost use Rattle.std.specs.Prelude.{[]};
-ghost use Rattle.graph_answers.specs.Answers.{Wrote};
-ghost use Rattle.graph_answers.specs.declared.call.Call.TheVariants as call;
+ghost use Rattle.graph_answers.specs.answers.Answers.{Wrote};
+ghost use Rattle.graph_answers.specs.declared.answers.call.Call.TheVariants as call;
 
-use graph_answers::{Call, write};
+use graph_answers::answers::{Call, write};
 use std::alloc::Global;
 
 /// Writes the description of the feature graph of `rows`.

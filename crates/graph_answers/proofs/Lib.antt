@@ -1,0 +1,2 @@
+pub mod requests
+pub mod answers

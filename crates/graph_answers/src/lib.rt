@@ -1,9 +1,5 @@
-//! Calls over the rows of a row file and a request, and their answers as bytes.
+//! The answers to requests about a feature graph, as bytes: what a request says, and the answer to it.
 #![tactic(auto)]
 
-mod answering;
-mod call;
-mod faults;
-
-pub use answering::{answer, write};
-pub use call::Call;
+pub mod answers;
+pub mod requests;

@@ -1,0 +1,5 @@
+use Rattle.laws.proofs.plans.Declarations.{plans_follow}
+use Rattle.laws.proofs.plans.laws.plans_follow_declarations.Goals as goal
+
+pub returns : goal.returns
+returns c = plans_follow

@@ -1,0 +1,5 @@
+use Rattle.laws.proofs.plans.Resolvers.{resolvers_agree}
+use Rattle.laws.proofs.plans.laws.resolvers_agree.Goals as goal
+
+pub returns : goal.returns
+returns c = resolvers_agree

@@ -1,0 +1,3 @@
+pub mod rows
+pub mod answers
+pub mod plans

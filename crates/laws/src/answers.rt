@@ -1,0 +1,3 @@
+//! The law that each command has an answer.
+
+pub mod laws;

@@ -1,0 +1,5 @@
+//! Laws of plans.
+
+pub mod choices;
+pub mod denies;
+pub mod laws;

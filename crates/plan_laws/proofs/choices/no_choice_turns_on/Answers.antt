@@ -1,5 +1,0 @@
-use Rattle.plan_laws.proofs.NoChoice.{no_choice_turns_on}
-use Rattle.plan_laws.proofs.choices.no_choice_turns_on.Goals as goal
-
-pub returns : goal.returns
-returns c = no_choice_turns_on c.no_selection_turns_on.ensures.off

@@ -1,5 +1,0 @@
-use Rattle.plan_laws.proofs.Grown.{grown_tables}
-use Rattle.plan_laws.proofs.laws.grown_tables_reach_more.Goals as goal
-
-pub returns : goal.returns
-returns c = grown_tables

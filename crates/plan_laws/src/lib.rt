@@ -1,6 +1,0 @@
-//! Laws of plans.
-#![tactic(auto)]
-
-pub mod choices;
-pub mod denies;
-pub mod laws;
