@@ -1,2 +1,7 @@
-pub mod texts
-pub mod checking
+pub mod CheckingTokens
+pub mod Founds
+pub mod Printed
+pub mod Refusals
+pub mod Scened
+pub mod TextsTokens
+pub mod Verdicts

@@ -1,2 +1,4 @@
-pub mod platforms
-pub mod features
+pub mod CountLemmas
+pub mod FeaturesTokens
+pub mod Once
+pub mod PlatformsTokens

@@ -1,2 +1,3 @@
-pub mod edits
-pub mod answers
+pub mod Lists
+pub mod SortedSlims
+pub mod Tokens

@@ -1,2 +1,5 @@
-pub mod packages
-pub mod features
+pub mod FeaturesShown
+pub mod KeyLemmas
+pub mod PackagesShown
+pub mod RootLemmas
+pub mod Zips

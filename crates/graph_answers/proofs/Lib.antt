@@ -1,2 +1,4 @@
-pub mod requests
-pub mod answers
+pub mod ChoiceWalks
+pub mod ReadBack
+pub mod SetLemmas
+pub mod StepLemmas

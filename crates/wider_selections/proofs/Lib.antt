@@ -1,1 +1,1 @@
-pub mod texts
+pub mod LastLines

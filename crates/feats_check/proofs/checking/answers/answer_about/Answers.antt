@@ -11,7 +11,7 @@ use Rattle.feats_check.specs.checking.Answers.{IsRefusalWith}
 use Rattle.feats_check.specs.checking.QuestionViews.{question_text}
 use Rattle.feats_check.specs.checking.Scenes.{scene_of}
 use Rattle.policy_checks.specs.declared.judged.Judged.TheVariants.{InBuild}
-use Rattle.feats_check.proofs.checking.Scened.{alone, unchecked}
+use Rattle.feats_check.proofs.Scened.{alone, unchecked}
 use Rattle.feats_check.proofs.checking.answers.answer_about.Goals as goal
 
 pub returns-in-None-clause-fault : goal.returns-in-None-clause-fault

@@ -6,8 +6,8 @@ use Rattle.feats_check.specs.checking.Answers.{IsRefusalWith}
 use Rattle.feats_check.specs.checking.QuestionViews.{question_text}
 use Rattle.feats_check.specs.checking.inner.PlannedViews.{scene_by}
 use Rattle.feats_check.specs.checking.inner.WidePlans.{IsNoWidePlan, scenes_with}
-use Rattle.feats_check.proofs.checking.Refusals.{says_more}
-use Rattle.feats_check.proofs.checking.Scened.{answered, are_wide_scenes, unchecked, unplanned}
+use Rattle.feats_check.proofs.Refusals.{says_more}
+use Rattle.feats_check.proofs.Scened.{answered, are_wide_scenes, unchecked, unplanned}
 use Rattle.feats_check.proofs.checking.answers.answer_widely.Goals as goal
 
 pub returns-clause-answer : goal.returns-clause-answer

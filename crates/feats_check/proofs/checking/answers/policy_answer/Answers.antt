@@ -9,7 +9,7 @@ use Rattle.feats_check.specs.checking.Answers.{IsAnswerWith, IsPolicyRefusal, Is
 use Rattle.feats_check.specs.checking.QuestionViews.{printed_text, question_text}
 use Rattle.feats_check.specs.checking.Scenes.{scene_of}
 use Rattle.policy_checks.specs.declared.judged.Judged.TheVariants.{InBuild}
-use Rattle.feats_check.proofs.checking.Scened.{err_more}
+use Rattle.feats_check.proofs.Scened.{err_more}
 use Rattle.feats_check.proofs.checking.answers.policy_answer.Goals as goal
 
 pub returns-in-Ok-clause-answer : goal.returns-in-Ok-clause-answer

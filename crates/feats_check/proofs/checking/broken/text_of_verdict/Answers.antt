@@ -4,7 +4,7 @@ use Rattle.cargo_workspaces.specs.WorkspaceView.{workspace_text}
 use Rattle.plan_whys.specs.StepViews.{found_text}
 use Rattle.feats_check.specs.checking.QuestionViews.{question_text}
 use Rattle.feats_check.specs.checking.inner.PlannedViews.{scene_by}
-use Rattle.feats_check.proofs.checking.Founds.{are_found}
+use Rattle.feats_check.proofs.Founds.{are_found}
 use Rattle.feats_check.proofs.checking.broken.text_of_verdict.Goals as goal
 
 pub returns : goal.returns

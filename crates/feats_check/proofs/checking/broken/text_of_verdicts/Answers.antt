@@ -4,7 +4,7 @@ use Rattle.feats_check.specs.checking.Broken.{IsBrokenText, broken_in}
 use Rattle.feats_check.specs.checking.QuestionViews.{question_text}
 use Rattle.feats_check.specs.checking.inner.Grown.{Grows}
 use Rattle.feats_check.specs.checking.inner.PlannedViews.{scene_by}
-use Rattle.feats_check.proofs.checking.Printed.{printed_more}
+use Rattle.feats_check.proofs.Printed.{printed_more}
 use Rattle.feats_check.proofs.checking.broken.text_of_verdicts.Goals as goal
 use Rattle.policy_checks.specs.Views.{verdict_text}
 

@@ -1,7 +1,7 @@
 use Rattle.std.proofs.Common.{map}
 use Rattle.cargo_workspaces.specs.WorkspaceView.{workspace_text}
 use Rattle.plan_whys.specs.StepViews.{why_text}
-use Rattle.feats_check.proofs.checking.Tokens.{objects_of, on_ok}
+use Rattle.feats_check.proofs.CheckingTokens.{objects_of, on_ok}
 use Rattle.feats_check.proofs.checking.objects.write_objects.Goals as goal
 
 pub returns : goal.returns

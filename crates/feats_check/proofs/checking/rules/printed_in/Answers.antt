@@ -4,7 +4,7 @@ use Rattle.policies.specs.Views.{rule_text}
 use Rattle.policies.specs.declared.rule.Rule.{Rule}
 use Rattle.feats_check.specs.checking.QuestionViews.{question_text}
 use Rattle.feats_check.specs.checking.inner.PlannedViews.{scene_by}
-use Rattle.feats_check.proofs.checking.Refusals.{rule_refused}
+use Rattle.feats_check.proofs.Refusals.{rule_refused}
 use Rattle.feats_check.proofs.checking.rules.printed_in.Goals as goal
 use Rattle.policy_checks.specs.Checks.{IsFirstRefusal, refusals}
 use Rattle.policy_checks.specs.Views.{refusal_text}

@@ -3,8 +3,8 @@ use Rattle.cargo_workspaces.specs.WorkspaceView.{workspace_text}
 use Rattle.policies.specs.Views.{rule_text}
 use Rattle.feats_check.specs.checking.QuestionViews.{printed_text, question_text}
 use Rattle.feats_check.specs.checking.inner.PlannedViews.{scenes_by}
-use Rattle.feats_check.proofs.checking.Printed.{so_more}
-use Rattle.feats_check.proofs.checking.Refusals.{rules_refused}
+use Rattle.feats_check.proofs.Printed.{so_more}
+use Rattle.feats_check.proofs.Refusals.{rules_refused}
 use Rattle.feats_check.proofs.checking.rules.printed_rules.Goals as goal
 
 pub loop-rule-preserved : goal.loop-rule-preserved

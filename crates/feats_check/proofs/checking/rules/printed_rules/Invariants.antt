@@ -3,7 +3,7 @@ use Rattle.cargo_workspaces.specs.WorkspaceView.{workspace_text}
 use Rattle.policies.specs.Views.{rule_text}
 use Rattle.feats_check.specs.checking.QuestionViews.{question_text}
 use Rattle.feats_check.specs.checking.inner.PlannedViews.{scenes_by}
-use Rattle.feats_check.proofs.checking.Printed.{IsSo}
+use Rattle.feats_check.proofs.Printed.{IsSo}
 use Rattle.feats_check.proofs.checking.rules.printed_rules.Given as goal
 
 abbrev pub invariant-loop-rule : goal.invariant-loop-rule

@@ -1,6 +1,6 @@
 use Rattle.std.proofs.Common.{map}
 use Rattle.feats_diff.specs.changes.Views.{change_text, part_text}
-use Rattle.feats_diff.proofs.changes.Whole.{whole_differences, whole_partition}
+use Rattle.feats_diff.proofs.Whole.{whole_differences, whole_partition}
 use Rattle.feats_diff.proofs.changes.comparing.differences_between.Goals as goal
 
 pub returns-clause-differences : goal.returns-clause-differences

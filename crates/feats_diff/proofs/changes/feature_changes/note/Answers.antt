@@ -1,4 +1,4 @@
-use Rattle.feats_diff.proofs.changes.Names.{any_more}
+use Rattle.feats_diff.proofs.Names.{any_more}
 use Rattle.feats_diff.proofs.changes.feature_changes.note.Goals as goal
 
 pub returns : goal.returns

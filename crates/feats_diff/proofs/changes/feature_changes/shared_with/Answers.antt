@@ -1,6 +1,6 @@
 use Rattle.std.proofs.Common.{◌∙◌}
 use Rattle.cargo_workspaces.specs.Views.{texts}
-use Rattle.feats_diff.proofs.changes.Names.{ok_with, those_in}
+use Rattle.feats_diff.proofs.Names.{ok_with, those_in}
 use Rattle.feats_diff.proofs.changes.feature_changes.shared_with.Goals as goal
 
 pub returns : goal.returns

@@ -1,4 +1,4 @@
-use Rattle.feats_diff.proofs.changes.Merges.{all_taken}
+use Rattle.feats_diff.proofs.Merges.{all_taken}
 use Rattle.feats_diff.proofs.changes.matches.finish.Goals as goal
 
 pub returns : goal.returns

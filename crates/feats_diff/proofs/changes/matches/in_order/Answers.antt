@@ -1,7 +1,7 @@
 use Rattle.std.proofs.Common.{IsPermutation, subst}
 use Rattle.std.proofs.lemmas.List.Sorted.{IsPermutation-map}
 use Rattle.feats_diff.specs.changes.Views.{part_text}
-use Rattle.feats_diff.proofs.changes.Sorted.{ascends}
+use Rattle.feats_diff.proofs.Sorted.{ascends}
 use Rattle.feats_diff.proofs.changes.matches.in_order.Goals as goal
 
 pub returns : goal.returns

@@ -3,8 +3,8 @@ use Rattle.feats_diff.specs.changes.Orders.{name_cmp, name_total, part_cmp}
 use Rattle.feats_diff.specs.changes.Pairings.{AreAscending, ArePaired, IsPartition}
 use Rattle.feats_diff.specs.changes.Views.{part_text}
 use Rattle.feats_diff.specs.changes.inner.Joined.{joined}
-use Rattle.feats_diff.proofs.changes.Joins.{by_name, join}
-use Rattle.feats_diff.proofs.changes.Names.{ok_with}
+use Rattle.feats_diff.proofs.Joins.{by_name, join}
+use Rattle.feats_diff.proofs.Names.{ok_with}
 use Rattle.feats_diff.proofs.changes.matches.paired_by_name.Goals as goal
 
 pub returns-clause-paired : goal.returns-clause-paired

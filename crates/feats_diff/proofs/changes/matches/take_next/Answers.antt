@@ -1,6 +1,6 @@
 use Rattle.std.proofs.Common.{◌∙◌, sym, refl}
 use Rattle.feats_diff.specs.changes.inner.Joined.{cmp_by}
-use Rattle.feats_diff.proofs.changes.Merges.{took_both, took_new, took_old}
+use Rattle.feats_diff.proofs.Merges.{took_both, took_new, took_old}
 use Rattle.feats_diff.proofs.changes.matches.take_next.Goals as goal
 
 pub returns-in_ok-push-in-Less-clause-found : goal.returns-in_ok-push-in-Less-clause-found

@@ -2,8 +2,8 @@ use Rattle.std.proofs.Common.{◌∙◌, ap, map}
 use Rattle.cargo_workspaces.specs.Views.{texts}
 use Rattle.feats_diff.specs.texts.Lines.{words}
 use Rattle.feats_diff.specs.texts.inner.Words.{word_text}
-use Rattle.feats_diff.proofs.texts.Cells.{plain}
-use Rattle.feats_diff.proofs.texts.Tokens.{ok_with}
+use Rattle.feats_diff.proofs.Cells.{plain}
+use Rattle.feats_diff.proofs.Tokens.{ok_with}
 use Rattle.feats_diff.proofs.texts.columns.features_cell.Goals as goal
 
 pub returns : goal.returns

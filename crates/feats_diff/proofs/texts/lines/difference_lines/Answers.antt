@@ -4,7 +4,7 @@ use Rattle.std.specs.String.{string_bytes}
 use Rattle.cargo_workspaces.specs.Views.{package_text}
 use Rattle.feats_diff.specs.texts.Lines.{lines_by}
 use Rattle.feats_diff.specs.texts.Views.{difference_text}
-use Rattle.feats_diff.proofs.texts.Tokens.{ok_with}
+use Rattle.feats_diff.proofs.Tokens.{ok_with}
 use Rattle.plan_lines.specs.Lines.{name_of}
 use Rattle.feats_diff.proofs.texts.lines.difference_lines.Goals as goal
 

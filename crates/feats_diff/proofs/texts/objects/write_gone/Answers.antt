@@ -1,4 +1,4 @@
-use Rattle.feats_diff.proofs.texts.Tokens.{appended, on_ok}
+use Rattle.feats_diff.proofs.Tokens.{appended, on_ok}
 use Rattle.feats_diff.proofs.texts.objects.write_gone.Goals as goal
 
 pub returns : goal.returns

@@ -1,4 +1,4 @@
-use Rattle.feats_list.proofs.features.Once.{once_new, once_same}
+use Rattle.feats_list.proofs.Once.{once_new, once_same}
 use Rattle.feats_list.proofs.features.optional_names.note.Goals as goal
 
 pub returns-in_ok-push : goal.returns-in_ok-push

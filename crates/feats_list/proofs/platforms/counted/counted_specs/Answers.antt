@@ -1,5 +1,5 @@
 use Rattle.std.proofs.lemmas.Result.{IfOk-weaker}
-use Rattle.feats_list.proofs.platforms.CountLemmas.{are_counted}
+use Rattle.feats_list.proofs.CountLemmas.{are_counted}
 use Rattle.feats_list.proofs.platforms.counted.counted_specs.Goals as goal
 
 pub returns : goal.returns

@@ -4,7 +4,7 @@ use Rattle.std.specs.Option.{unwrap_or}
 use Rattle.std.proofs.lemmas.Grind.{common_steps}
 use Rattle.std.proofs.lemmas.Map.Text.{btree_map_updates_str}
 use Rattle.cargo_workspaces.specs.Workspaces.{text_cmp}
-use Rattle.feats_list.proofs.platforms.CountLemmas.{counts_more}
+use Rattle.feats_list.proofs.CountLemmas.{counts_more}
 use Rattle.feats_list.proofs.platforms.counts.count.Goals as goal
 
 pub returns-in_ok-_old-in-Some : goal.returns-in_ok-_old-in-Some

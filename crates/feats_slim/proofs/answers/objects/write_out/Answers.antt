@@ -1,4 +1,4 @@
-use Rattle.feats_slim.proofs.answers.Tokens.{appended, on_ok}
+use Rattle.feats_slim.proofs.Tokens.{appended, on_ok}
 use Rattle.feats_slim.proofs.answers.objects.write_out.Goals as goal
 
 pub returns : goal.returns

@@ -1,7 +1,7 @@
 use Rattle.std.proofs.Common.{◌∙◌, ap, ◌++◌, append_assoc}
 use Rattle.std.specs.Prelude.{codes, string_bytes}
 use Rattle.feats_slim.specs.answers.Lines.{quoted}
-use Rattle.feats_slim.proofs.answers.Tokens.{on_ok}
+use Rattle.feats_slim.proofs.Tokens.{on_ok}
 use Rattle.feats_slim.proofs.answers.rows.push_feature.Goals as goal
 
 pub returns : goal.returns

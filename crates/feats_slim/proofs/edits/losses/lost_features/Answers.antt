@@ -4,7 +4,7 @@ use Rattle.cargo_workspaces.specs.Workspaces.{PackageText}
 use Rattle.cargo_workspaces.specs.declared.package.Feature.{Feature}
 use Rattle.feats_slim.specs.edits.Losses.{lost_among}
 use Rattle.feats_slim.specs.edits.LossViews.{lost_feature_text}
-use Rattle.feats_slim.proofs.edits.Lists.{joined_more}
+use Rattle.feats_slim.proofs.Lists.{joined_more}
 use Rattle.feats_slim.proofs.edits.losses.lost_features.Goals as goal
 
 pub loop-ix-preserved : goal.loop-ix-preserved

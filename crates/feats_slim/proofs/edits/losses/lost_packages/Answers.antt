@@ -1,7 +1,7 @@
 use Rattle.std.proofs.Common.{◌∙◌, ◌++◌, ◌∷◌, [], ℕ, ap, cond}
 use Rattle.cargo_workspaces.specs.Views.{package_text}
 use Rattle.feats_slim.specs.edits.Losses.{is_lost}
-use Rattle.feats_slim.proofs.edits.Lists.{numbered_more}
+use Rattle.feats_slim.proofs.Lists.{numbered_more}
 use Rattle.feats_slim.proofs.edits.losses.lost_packages.Goals as goal
 
 pub loop-ix-preserved : goal.loop-ix-preserved

@@ -3,7 +3,7 @@ use Rattle.cargo_workspaces.specs.Views.{feature_text}
 use Rattle.cargo_workspaces.specs.Workspaces.{FeatureText}
 use Rattle.feats_slim.specs.edits.Losses.{is_feature_lost, lost_by}
 use Rattle.feats_slim.specs.edits.LossViews.{lost_feature_text}
-use Rattle.feats_slim.proofs.edits.Lists.{mapped_more}
+use Rattle.feats_slim.proofs.Lists.{mapped_more}
 use Rattle.feats_slim.proofs.edits.losses.push_features.Goals as goal
 
 pub loop-feature-preserved : goal.loop-feature-preserved

@@ -3,7 +3,7 @@ use Rattle.std.proofs.lemmas.Result.{on_ok_weaker}
 use Rattle.std.proofs.lemmas.List.Sorted.{IsPermutation-map, answers_always, ranks_by}
 use Rattle.feats_slim.specs.edits.Orders.{slim_total}
 use Rattle.feats_slim.specs.edits.SlimViews.{slim_text}
-use Rattle.feats_slim.proofs.edits.SortedSlims.{before, descends, stays}
+use Rattle.feats_slim.proofs.SortedSlims.{before, descends, stays}
 use Rattle.feats_slim.proofs.edits.orders.sort_slims.Goals as goal
 
 pub returns : goal.returns

@@ -4,7 +4,7 @@ use Rattle.std.specs.Borrow.{Bor}
 use Rattle.cargo_workspaces.specs.Views.{texts}
 use Rattle.cargo_workspaces.specs.Workspaces.{Text}
 use Rattle.feats_slim.specs.edits.inner.Groups.{group_at, lists_text}
-use Rattle.feats_slim.proofs.edits.Lists.{added}
+use Rattle.feats_slim.proofs.Lists.{added}
 use Rattle.feats_slim.proofs.edits.places.push_place.Goals as goal
 
 pub returns : goal.returns

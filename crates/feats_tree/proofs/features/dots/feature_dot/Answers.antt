@@ -5,7 +5,7 @@ use Rattle.plan_steps.specs.PlanViews.{plan_text}
 use Rattle.plan_whys.specs.StepViews.{spot_text}
 use Rattle.plan_whys.specs.declared.steps.Spot.{Spot}
 use Rattle.feats_tree.specs.features.Titles.{labels_of}
-use Rattle.feats_tree.proofs.features.Shown.{feature_graph}
+use Rattle.feats_tree.proofs.FeaturesShown.{feature_graph}
 use Rattle.feats_tree.proofs.features.dots.feature_dot.Goals as goal
 
 pub returns : goal.returns

@@ -3,7 +3,7 @@ use Rattle.std.specs.String.{string_bytes}
 use Rattle.plan_dots.specs.Views.{node_text}
 use Rattle.plan_whys.specs.StepViews.{spot_text}
 use Rattle.feats_tree.specs.features.Dots.{clusters}
-use Rattle.feats_tree.proofs.features.Shown.{graph_of}
+use Rattle.feats_tree.proofs.FeaturesShown.{graph_of}
 use Rattle.feats_tree.proofs.features.dots.labelled_dot.Goals as goal
 
 pub returns : goal.returns

@@ -1,7 +1,7 @@
 use Rattle.std.proofs.Common.{ap, inl, inr, map}
 use Rattle.std.proofs.lemmas.List.{nil_from_length}
 use Rattle.std.specs.String.{string_bytes}
-use Rattle.feats_tree.proofs.packages.Zips.{first_ended, second_ended}
+use Rattle.feats_tree.proofs.Zips.{first_ended, second_ended}
 use Rattle.plan_whys.specs.StepViews.{spot_text}
 use Rattle.feats_tree.specs.features.Dots.{node_of}
 use Rattle.feats_tree.proofs.features.dots.nodes_of.Goals as goal

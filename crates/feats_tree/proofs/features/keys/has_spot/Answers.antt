@@ -1,5 +1,5 @@
 use Rattle.std.proofs.Common.{◌∙◌}
-use Rattle.feats_tree.proofs.features.KeyLemmas.{found}
+use Rattle.feats_tree.proofs.KeyLemmas.{found}
 use Rattle.feats_tree.proofs.features.keys.has_spot.Goals as goal
 
 pub returns : goal.returns

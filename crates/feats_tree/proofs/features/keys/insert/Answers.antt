@@ -1,5 +1,5 @@
 use Rattle.feats_tree.specs.features.inner.Keys.{key_of}
-use Rattle.feats_tree.proofs.features.KeyLemmas.{one_more}
+use Rattle.feats_tree.proofs.KeyLemmas.{one_more}
 use Rattle.feats_tree.proofs.features.keys.insert.Goals as goal
 
 pub returns : goal.returns

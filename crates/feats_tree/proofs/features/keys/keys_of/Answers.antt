@@ -1,7 +1,7 @@
 use Rattle.std.proofs.Common.{arith}
 use Rattle.feature_labels.specs.declared.feature_label.FeatureLabel.TheVariants.{Base}
 use Rattle.plan_rows.specs.declared.side.Side.TheVariants.{Target}
-use Rattle.feats_tree.proofs.features.KeyLemmas.{keys_more}
+use Rattle.feats_tree.proofs.KeyLemmas.{keys_more}
 use Rattle.feats_tree.proofs.features.keys.keys_of.Goals as goal
 
 pub loop-spot-preserved : goal.loop-spot-preserved

@@ -3,7 +3,7 @@ use Rattle.std.proofs.lemmas.List.{length-map}
 use Rattle.digraphs.specs.Bits.{has}
 use Rattle.plan_whys.specs.StepViews.{spot_text}
 use Rattle.feats_tree.specs.features.Roots.{is_asked}
-use Rattle.feats_tree.proofs.features.RootLemmas.{same_numbers}
+use Rattle.feats_tree.proofs.RootLemmas.{same_numbers}
 use Rattle.feats_tree.proofs.features.roots.asked_spots.Goals as goal
 
 pub returns : goal.returns

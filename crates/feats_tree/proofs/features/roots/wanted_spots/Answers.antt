@@ -1,5 +1,5 @@
 use Rattle.std.proofs.Common.{◌∙◌}
-use Rattle.feats_tree.proofs.features.KeyLemmas.{all_found}
+use Rattle.feats_tree.proofs.KeyLemmas.{all_found}
 use Rattle.feats_tree.proofs.features.roots.wanted_spots.Goals as goal
 
 pub returns : goal.returns

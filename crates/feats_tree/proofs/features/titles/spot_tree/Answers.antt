@@ -6,7 +6,7 @@ use Rattle.cargo_workspaces.specs.Workspaces.{PackageText}
 use Rattle.feats_tree.specs.packages.Titles.{id_at, titles_with}
 use Rattle.plan_whys.specs.StepViews.{spot_text}
 use Rattle.feats_tree.specs.features.Titles.{spot_titles}
-use Rattle.feats_tree.proofs.features.Shown.{titled_by}
+use Rattle.feats_tree.proofs.FeaturesShown.{titled_by}
 use Rattle.feats_tree.proofs.features.titles.spot_tree.Goals as goal
 
 pub returns : goal.returns

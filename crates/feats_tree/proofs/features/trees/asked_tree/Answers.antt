@@ -4,7 +4,7 @@ use Rattle.plan_whys.specs.StepViews.{spot_text}
 use Rattle.feats_tree.specs.features.Links.{shown_links}
 use Rattle.feats_tree.specs.features.Roots.{asked_spots}
 use Rattle.feats_tree.specs.features.Titles.{spot_titles}
-use Rattle.feats_tree.proofs.features.Shown.{tree_over}
+use Rattle.feats_tree.proofs.FeaturesShown.{tree_over}
 use Rattle.feats_tree.proofs.features.trees.asked_tree.Goals as goal
 
 pub returns : goal.returns

@@ -4,7 +4,7 @@ use Rattle.plan_steps.specs.PlanViews.{plan_text}
 use Rattle.plan_whys.specs.StepViews.{spot_text}
 use Rattle.plan_whys.specs.declared.steps.Spot.{Spot}
 use Rattle.feats_tree.specs.features.Roots.{wanted_spots}
-use Rattle.feats_tree.proofs.features.Shown.{inverted_trees}
+use Rattle.feats_tree.proofs.FeaturesShown.{inverted_trees}
 use Rattle.feats_tree.proofs.features.trees.inverted_feature_tree.Goals as goal
 
 pub returns : goal.returns

@@ -3,7 +3,7 @@ use Rattle.cargo_workspaces.specs.WorkspaceView.{workspace_text}
 use Rattle.feats_tree.specs.packages.Trees.{AreTurned}
 use Rattle.plan_whys.specs.StepViews.{spot_text}
 use Rattle.feats_tree.specs.features.Links.{shown_links}
-use Rattle.feats_tree.proofs.features.Shown.{turned_trees}
+use Rattle.feats_tree.proofs.FeaturesShown.{turned_trees}
 use Rattle.feats_tree.proofs.features.trees.turned_tree.Goals as goal
 
 pub returns : goal.returns

@@ -3,7 +3,7 @@ use Rattle.std.proofs.lemmas.List.{nil_from_length}
 use Rattle.std.specs.String.{string_bytes}
 use Rattle.plan_steps.specs.plan_units.UnitViews.{unit_text}
 use Rattle.feats_tree.specs.packages.Dots.{node_of}
-use Rattle.feats_tree.proofs.packages.Zips.{first_ended, second_ended}
+use Rattle.feats_tree.proofs.Zips.{first_ended, second_ended}
 use Rattle.feats_tree.proofs.packages.dots.nodes_of.Goals as goal
 
 pub returns : goal.returns

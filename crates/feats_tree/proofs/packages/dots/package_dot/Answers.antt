@@ -6,7 +6,7 @@ use Rattle.plan_links.specs.UnitLinks.{AreUnitLinks}
 use Rattle.plan_steps.specs.PlanViews.{plan_text}
 use Rattle.plan_steps.specs.plan_units.UnitViews.{unit_text}
 use Rattle.feats_tree.specs.packages.Titles.{unit_title}
-use Rattle.feats_tree.proofs.packages.Shown.{package_graph}
+use Rattle.feats_tree.proofs.PackagesShown.{package_graph}
 use Rattle.feats_tree.proofs.packages.dots.package_dot.Goals as goal
 
 pub returns : goal.returns

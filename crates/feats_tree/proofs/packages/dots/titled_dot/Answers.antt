@@ -4,7 +4,7 @@ use Rattle.std.specs.String.{string_bytes}
 use Rattle.cargo_workspaces.specs.Views.{texts}
 use Rattle.plan_dots.specs.Views.{node_text}
 use Rattle.plan_steps.specs.plan_units.UnitViews.{unit_text}
-use Rattle.feats_tree.proofs.packages.Shown.{graph_of}
+use Rattle.feats_tree.proofs.PackagesShown.{graph_of}
 use Rattle.feats_tree.proofs.packages.dots.titled_dot.Goals as goal
 
 pub returns : goal.returns

@@ -3,7 +3,7 @@ use Rattle.std.proofs.lemmas.List.{nil_from_length}
 use Rattle.std.specs.String.{string_bytes}
 use Rattle.cargo_workspaces.specs.Views.{texts}
 use Rattle.feats_tree.specs.packages.Titles.{titled}
-use Rattle.feats_tree.proofs.packages.Zips.{first_ended, second_ended}
+use Rattle.feats_tree.proofs.Zips.{first_ended, second_ended}
 use Rattle.feats_tree.proofs.packages.ids.titles_with.Goals as goal
 
 pub returns : goal.returns

@@ -1,7 +1,7 @@
 use Rattle.std.proofs.Common.{map, subst, sym}
 use Rattle.link_trees.specs.Branches.{AreTrees}
 use Rattle.link_trees.specs.Titles.{title_text}
-use Rattle.feats_tree.proofs.packages.Shown.{tree_by}
+use Rattle.feats_tree.proofs.PackagesShown.{tree_by}
 use Rattle.feats_tree.proofs.packages.tree_texts.tree_text.Goals as goal
 
 pub branches_text-requires : goal.branches_text-requires

@@ -5,7 +5,7 @@ use Rattle.plan_links.specs.UnitLinks.{AreUnitLinks}
 use Rattle.plan_steps.specs.PlanViews.{plan_text}
 use Rattle.plan_steps.specs.plan_units.UnitViews.{unit_text}
 use Rattle.feats_tree.specs.packages.Trees.{AreTurned, units_of}
-use Rattle.feats_tree.proofs.packages.Shown.{inverted_trees}
+use Rattle.feats_tree.proofs.PackagesShown.{inverted_trees}
 use Rattle.feats_tree.proofs.packages.trees.inverted_package_tree.Goals as goal
 
 pub returns : goal.returns

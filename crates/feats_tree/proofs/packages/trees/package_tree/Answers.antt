@@ -4,7 +4,7 @@ use Rattle.cargo_workspaces.specs.WorkspaceView.{workspace_text}
 use Rattle.plan_links.specs.UnitLinks.{AreUnitLinks}
 use Rattle.plan_steps.specs.PlanViews.{plan_text}
 use Rattle.plan_steps.specs.plan_units.UnitViews.{unit_text}
-use Rattle.feats_tree.proofs.packages.Shown.{package_trees}
+use Rattle.feats_tree.proofs.PackagesShown.{package_trees}
 use Rattle.feats_tree.proofs.packages.trees.package_tree.Goals as goal
 
 pub returns : goal.returns

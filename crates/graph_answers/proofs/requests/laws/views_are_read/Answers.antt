@@ -1,7 +1,7 @@
 use Rattle.std.proofs.Common.{[], ap}
 use Rattle.std.specs.Prelude.{option_and_then}
 use Rattle.graph_answers.specs.requests.Requests.{at_end}
-use Rattle.graph_answers.proofs.requests.ReadBack.{start_back}
+use Rattle.graph_answers.proofs.ReadBack.{start_back}
 use Rattle.graph_answers.proofs.requests.laws.views_are_read.Goals as goal
 
 pub returns : goal.returns

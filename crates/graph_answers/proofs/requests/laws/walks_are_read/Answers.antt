@@ -3,7 +3,7 @@ use Rattle.std.specs.Prelude.{option_and_then}
 use Rattle.std.specs.Option.{option_map}
 use Rattle.graph_answers.specs.requests.Requests.{walk_request, choice_in}
 use Rattle.graph_answers.specs.requests.Written.{choice_numbers}
-use Rattle.graph_answers.proofs.requests.ReadBack.{start_back, choice_back}
+use Rattle.graph_answers.proofs.ReadBack.{start_back, choice_back}
 use Rattle.graph_answers.proofs.requests.laws.walks_are_read.Goals as goal
 
 pub returns : goal.returns

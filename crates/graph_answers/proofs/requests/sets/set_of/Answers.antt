@@ -1,7 +1,7 @@
 use Rattle.std.proofs.Common.{◌∙◌, false, length, ap, arith}
 use Rattle.std.specs.Prelude.{slice_index}
 use Rattle.std.proofs.lemmas.List.{length-replicate, drop_all, drop_more}
-use Rattle.graph_answers.proofs.requests.SetLemmas.{set_begins, set_more, set_ends, below_at}
+use Rattle.graph_answers.proofs.SetLemmas.{set_begins, set_more, set_ends, below_at}
 use Rattle.graph_answers.proofs.requests.sets.set_of.Goals as goal
 
 pub loop-at-init : goal.loop-at-init

@@ -1,6 +1,6 @@
 use Rattle.std.proofs.Common.{rules, ◌≡◌, ◌-◌, ◌+◌, ◌∙◌, ap, sym, arith}
 use Rattle.graph_answers.specs.requests.Requests.{many_in, step_in}
-use Rattle.graph_answers.proofs.requests.StepLemmas.{after, after_nothing, many_more, many_none, many_end}
+use Rattle.graph_answers.proofs.StepLemmas.{after, after_nothing, many_more, many_none, many_end}
 use Rattle.graph_answers.proofs.requests.steps.some_steps.Goals as goal
 
 pub loop-init : goal.loop-init

@@ -2,7 +2,7 @@ use Rattle.std.proofs.Common.{ap, subst}
 use Rattle.digraphs.specs.Bits.{has}
 use Rattle.walk_engine.specs.Explanations.{IsExplainedWalk}
 use Rattle.graph_answers.specs.requests.Choices.{choice_of}
-use Rattle.graph_answers.proofs.requests.ChoiceWalks.{Answered, walk_by}
+use Rattle.graph_answers.proofs.ChoiceWalks.{Answered, walk_by}
 use Rattle.graph_answers.proofs.requests.walking.explained.Goals as goal
 
 pub returns : goal.returns

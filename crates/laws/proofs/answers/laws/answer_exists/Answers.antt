@@ -1,4 +1,4 @@
-use Rattle.laws.proofs.answers.BytesAnswered.{answer_exists}
+use Rattle.laws.proofs.BytesAnswered.{answer_exists}
 use Rattle.laws.proofs.answers.laws.answer_exists.Goals as goal
 
 pub returns : goal.returns

@@ -1,4 +1,4 @@
-use Rattle.laws.proofs.plans.NoChoice.{no_choice_turns_on}
+use Rattle.laws.proofs.NoChoice.{no_choice_turns_on}
 use Rattle.laws.proofs.plans.choices.no_choice_turns_on.Goals as goal
 
 pub returns : goal.returns

@@ -1,4 +1,4 @@
-use Rattle.laws.proofs.plans.Sentence.{sentence_is_true}
+use Rattle.laws.proofs.Sentence.{sentence_is_true}
 use Rattle.laws.proofs.plans.choices.the_sentence_is_true.Goals as goal
 
 pub returns : goal.returns

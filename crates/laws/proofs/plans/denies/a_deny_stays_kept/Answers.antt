@@ -1,4 +1,4 @@
-use Rattle.laws.proofs.plans.DenyLemmas.{stays_kept, stays_kept_on}
+use Rattle.laws.proofs.DenyLemmas.{stays_kept, stays_kept_on}
 use Rattle.laws.proofs.plans.denies.a_deny_stays_kept.Goals as goal
 
 pub returns-clause-everywhere : goal.returns-clause-everywhere

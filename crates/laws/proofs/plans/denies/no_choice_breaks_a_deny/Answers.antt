@@ -1,4 +1,4 @@
-use Rattle.laws.proofs.plans.DenyLemmas.{no_choice, no_choice_on}
+use Rattle.laws.proofs.DenyLemmas.{no_choice, no_choice_on}
 use Rattle.laws.proofs.plans.denies.no_choice_breaks_a_deny.Goals as goal
 
 pub returns-clause-everywhere : goal.returns-clause-everywhere

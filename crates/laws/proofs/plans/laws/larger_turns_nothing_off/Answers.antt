@@ -1,4 +1,4 @@
-use Rattle.laws.proofs.plans.Wider.{larger_turns_nothing_off}
+use Rattle.laws.proofs.Wider.{larger_turns_nothing_off}
 use Rattle.laws.proofs.plans.laws.larger_turns_nothing_off.Goals as goal
 
 pub returns : goal.returns

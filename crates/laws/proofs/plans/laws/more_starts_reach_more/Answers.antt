@@ -1,4 +1,4 @@
-use Rattle.laws.proofs.plans.Monotone.{more_reached, more_visited}
+use Rattle.laws.proofs.Monotone.{more_reached, more_visited}
 use Rattle.laws.proofs.plans.laws.more_starts_reach_more.Goals as goal
 
 pub returns-clause-reach : goal.returns-clause-reach

@@ -1,5 +1,5 @@
-use Rattle.laws.proofs.plans.MoreFeatures.{more_turns_nothing_off}
-use Rattle.laws.proofs.plans.MoreWords.{more_words}
+use Rattle.laws.proofs.MoreFeatures.{more_turns_nothing_off}
+use Rattle.laws.proofs.MoreWords.{more_words}
 use Rattle.laws.proofs.plans.laws.more_turns_nothing_off.Goals as goal
 
 pub returns-clause-settings : goal.returns-clause-settings

@@ -1,4 +1,4 @@
-use Rattle.laws.proofs.plans.WidestWords.{no_selection_turns_on, widest_turns_all_on}
+use Rattle.laws.proofs.WidestWords.{no_selection_turns_on, widest_turns_all_on}
 use Rattle.laws.proofs.plans.laws.no_selection_turns_on.Goals as goal
 
 pub returns-clause-widest : goal.returns-clause-widest

@@ -1,4 +1,4 @@
-use Rattle.laws.proofs.plans.OnePlan.{one_plan, one_plan_of_words}
+use Rattle.laws.proofs.OnePlan.{one_plan, one_plan_of_words}
 use Rattle.laws.proofs.plans.laws.one_plan.Goals as goal
 
 pub returns-clause-settings : goal.returns-clause-settings

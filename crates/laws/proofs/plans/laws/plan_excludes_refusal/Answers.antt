@@ -1,4 +1,4 @@
-use Rattle.laws.proofs.plans.OneOutcome.{plan_excludes, plan_of_words_excludes}
+use Rattle.laws.proofs.OneOutcome.{plan_excludes, plan_of_words_excludes}
 use Rattle.laws.proofs.plans.laws.plan_excludes_refusal.Goals as goal
 
 pub returns-clause-settings : goal.returns-clause-settings

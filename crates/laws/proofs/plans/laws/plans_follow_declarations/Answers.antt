@@ -1,4 +1,4 @@
-use Rattle.laws.proofs.plans.Declarations.{plans_follow}
+use Rattle.laws.proofs.Declarations.{plans_follow}
 use Rattle.laws.proofs.plans.laws.plans_follow_declarations.Goals as goal
 
 pub returns : goal.returns

@@ -1,6 +1,0 @@
-pub mod Founds
-pub mod Printed
-pub mod Refusals
-pub mod Scened
-pub mod Tokens
-pub mod Verdicts

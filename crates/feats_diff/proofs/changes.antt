@@ -1,5 +1,0 @@
-pub mod Joins
-pub mod Merges
-pub mod Names
-pub mod Sorted
-pub mod Whole

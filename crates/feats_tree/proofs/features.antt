@@ -1,3 +1,0 @@
-pub mod KeyLemmas
-pub mod RootLemmas
-pub mod Shown

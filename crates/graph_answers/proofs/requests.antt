@@ -1,4 +1,0 @@
-pub mod SetLemmas
-pub mod ChoiceWalks
-pub mod StepLemmas
-pub mod ReadBack
