@@ -1,6 +1,6 @@
 #!/usr/bin/env python3
 """A reference model of the links between the packages that a plan builds, and between the features that are on in it. It is written over
-plan_model.py, by the definitions in crates/plan_links/specs: sets and loops, and no speed.
+plan_model.py, by the definitions in crates/plan_whys/specs/links: sets and loops, and no speed.
 
     link_model.py packages|features SELECTION...    prints the links, a line each, and `root` lines; SELECTION as for `plan_model.py plan`
 """

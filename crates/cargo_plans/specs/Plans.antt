@@ -3,8 +3,8 @@ use Rattle.std.specs.Prelude.{◌≡◌, List, Bool, Ok}
 use Rattle.cargo_workspaces.specs.Workspaces.{Text, WorkspaceText}
 use Rattle.plan_words.specs.Choices.{ChosenText, choose}
 use Rattle.plan_words.specs.Selections.{SelectionText}
-use Rattle.plan_steps.specs.plan_rows.Steps.{SettingsText}
-use Rattle.plan_steps.specs.Plans.{PlanText, IsPlan}
+use Rattle.plan_rows.specs.Steps.{SettingsText}
+use Rattle.cargo_plans.specs.plan_steps.Plans.{PlanText, IsPlan}
 
 -- What a command line says about a plan: the selection, whether tests are built, and which platform specs hold for the host and for
 -- each of the target platforms.

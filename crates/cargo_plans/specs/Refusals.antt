@@ -3,8 +3,8 @@ use Rattle.std.specs.Prelude.{◌≡◌, Bool, true, false, Err}
 use Rattle.cargo_workspaces.specs.Workspaces.{WorkspaceText}
 use Rattle.plan_words.specs.Choices.{choose}
 use Rattle.plan_words.specs.Refusals.{refusal_of}
-use Rattle.plan_steps.specs.PlanViews.{IsRefused}
-use Rattle.plan_steps.specs.declared.fault.StepFault.TheVariants as step
+use Rattle.cargo_plans.specs.plan_steps.PlanViews.{IsRefused}
+use Rattle.cargo_plans.specs.declared.plan_steps.fault.StepFault.TheVariants as step
 use Rattle.cargo_plans.specs.Plans.{WordsText, AfterWords, settings_by}
 use Rattle.cargo_plans.specs.declared.fault.PlanFault.{PlanFault}
 use Rattle.cargo_plans.specs.declared.fault.PlanFault.TheVariants as fault

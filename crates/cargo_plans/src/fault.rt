@@ -2,7 +2,7 @@
 ghost use Rattle.std.specs.Prelude.{◌≡◌};
 ghost use Rattle.cargo_plans.specs.inner.Faults as spec;
 
-use plan_steps::StepFault;
+use crate::plan_steps::StepFault;
 use plan_words::WordFault;
 
 /// The reason why there is no plan.

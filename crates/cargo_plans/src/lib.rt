@@ -1,7 +1,10 @@
 //! The plan of a workspace by the words of a command line: which packages a build compiles, in which place, and with which features.
 #![tactic(auto)]
 
+pub mod built_parts;
 mod fault;
+pub mod plan_steps;
+pub mod plan_units;
 mod planning;
 mod words;
 

@@ -3,15 +3,15 @@ ghost use Rattle.std.specs.Prelude.{◌≡◌, IfErr, IfOk, IsTrue, length, nat_
 ghost use Rattle.std.specs.List.{list_all};
 ghost use Rattle.cargo_workspaces.specs.WorkspaceView.{workspace_text};
 ghost use Rattle.plan_words.specs.Choices.{are_commands, chosen_text};
-ghost use Rattle.plan_steps.specs.PlanViews.{Plans, plan_text};
+ghost use Rattle.cargo_plans.specs.plan_steps.PlanViews.{Plans, plan_text};
 ghost use Rattle.cargo_plans.specs.Plans.{IsPlanOf, settings_by};
 ghost use Rattle.cargo_plans.specs.Refusals.{IsRefusal};
 ghost use Rattle.cargo_plans.specs.WordsView.{words_text};
 
 use crate::fault::{PlanFault, of_words};
+use crate::plan_steps::{Plan, Platform, Settings, StepFault, plan_of};
 use crate::words::PlanWords;
 use cargo_workspaces::Workspace;
-use plan_steps::{Plan, Platform, Settings, StepFault, plan_of};
 use plan_words::{Chosen, choose};
 use std::alloc::Global;
 

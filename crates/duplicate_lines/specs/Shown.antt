@@ -2,8 +2,8 @@
 use Rattle.std.specs.Prelude.{ℕ, List, [], ◌∷◌, ◌++◌, Bool, map, flat_map, slice_get, unwrap_or, codes, if◌then◌else◌}
 use Rattle.std.specs.Option.{option_map_or}
 use Rattle.cargo_workspaces.specs.Workspaces.{Text, PackageText}
-use Rattle.plan_duplicates.specs.cargo_plans.plan_units.declared.unit.Place.{Place}
-use Rattle.plan_duplicates.specs.cargo_plans.plan_units.declared.unit.Place.TheVariants as place
+use Rattle.plan_duplicates.specs.cargo_plans.declared.plan_units.unit.Place.{Place}
+use Rattle.plan_duplicates.specs.cargo_plans.declared.plan_units.unit.Place.TheVariants as place
 use Rattle.plan_duplicates.specs.Alone.{AloneText, MemberUnitText}
 use Rattle.plan_duplicates.specs.Built.{PlacedText}
 use Rattle.plan_duplicates.specs.Duplicates.{DuplicatesText}

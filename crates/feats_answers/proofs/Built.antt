@@ -2,9 +2,9 @@
 use Rattle.std.proofs.Common.{◌≡◌, ◌∙◌, ℕ, List, [], ◌∷◌, ◌++◌, Bool, Option, ap, refl, subst, flat_map, length, map, ◌==◌, vec_len, arith}
 use Rattle.std.proofs.lemmas.Bool.Decides.{nat_tests}
 use Rattle.std.specs.Global.{Vec}
-use Rattle.built_parts.specs.Built.{is_part_built, state_of}
-use Rattle.built_parts.specs.declared.state.PartState.{PartState}
-use Rattle.built_parts.specs.declared.state.PartState.TheVariants.{Built}
+use Rattle.cargo_plans.specs.built_parts.Built.{is_part_built, state_of}
+use Rattle.cargo_plans.specs.declared.built_parts.state.PartState.{PartState}
+use Rattle.cargo_plans.specs.declared.built_parts.state.PartState.TheVariants.{Built}
 use Rattle.cargo_plans.specs.Plans.{WordsText}
 use Rattle.cargo_plans.specs.plan_steps.Plans.{PlanText}
 use Rattle.cargo_workspaces.specs.Workspaces.{Text, WorkspaceText}

@@ -3,7 +3,7 @@ use Rattle.std.specs.Prelude.{◌≡◌}
 use Rattle.cargo_workspaces.specs.Workspaces.{Text, WorkspaceText}
 use Rattle.cargo_plans.specs.Plans.{WordsText}
 use Rattle.plan_names.specs.Faults.{package_named}
-use Rattle.plan_platforms.specs.DeclaredSpecs.{declared_specs}
+use Rattle.plan_rows.specs.platforms.DeclaredSpecs.{declared_specs}
 use Rattle.cargo_plans.specs.plan_steps.Plans.{PlanText}
 use Rattle.feats_words.specs.Requests.{QuestionText, check, dot, duplicates, list, plan, slim, specs, tree, why, why_not}
 use Rattle.feats_answers.specs.AnswerTexts.{AnswerText}

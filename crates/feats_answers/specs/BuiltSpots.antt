@@ -1,9 +1,9 @@
 -- The spots that are built, and those that are on and not built.
 use Rattle.std.specs.Prelude.{ℕ, List, [], Bool, true, false, Option, filter, map}
 use Rattle.feature_labels.specs.Names.{LabelName}
-use Rattle.built_parts.specs.Scripts.{lacking_script}
-use Rattle.built_parts.specs.declared.state.PartState.{PartState}
-use Rattle.built_parts.specs.declared.state.PartState.TheVariants.{Off, Unbuilt, Built}
+use Rattle.cargo_plans.specs.built_parts.Scripts.{lacking_script}
+use Rattle.cargo_plans.specs.declared.built_parts.state.PartState.{PartState}
+use Rattle.cargo_plans.specs.declared.built_parts.state.PartState.TheVariants.{Off, Unbuilt, Built}
 use Rattle.cargo_workspaces.specs.Workspaces.{Text, PackageText}
 use Rattle.cargo_plans.specs.Plans.{WordsText}
 use Rattle.plan_rows.specs.declared.side.Side.{Side}

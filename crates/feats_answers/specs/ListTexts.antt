@@ -1,7 +1,7 @@
 -- The text about the features of a package.
 use Rattle.std.specs.Prelude.{◌≡◌, ℕ, Bool, Ok, Some, slice_get}
 use Rattle.feature_labels.specs.Names.{LabelName}
-use Rattle.built_parts.specs.Built.{is_part_built}
+use Rattle.cargo_plans.specs.built_parts.Built.{is_part_built}
 use Rattle.cargo_workspaces.specs.Workspaces.{Text, PackageText, WorkspaceText}
 use Rattle.feats_list.specs.features.Lines.{feature_lines}
 use Rattle.feats_list.specs.features.Objects.{feature_objects}

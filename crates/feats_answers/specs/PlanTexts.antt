@@ -4,8 +4,8 @@ use Rattle.cargo_workspaces.specs.Workspaces.{Text, PackageText}
 use Rattle.plan_lines.specs.Lines.{ShownText, plan_lines}
 use Rattle.plan_lines.specs.Objects.{plan_objects}
 use Rattle.cargo_plans.specs.plan_units.Units.{UnitText}
-use Rattle.cargo_plans.specs.plan_units.declared.unit.Place.{Place}
-use Rattle.cargo_plans.specs.plan_units.declared.unit.Place.TheVariants as place
+use Rattle.cargo_plans.specs.declared.plan_units.unit.Place.{Place}
+use Rattle.cargo_plans.specs.declared.plan_units.unit.Place.TheVariants as place
 use Rattle.feats_files.specs.Files.{FileText}
 use Rattle.feats_words.specs.declared.command_arguments.Format.{Format}
 use Rattle.feats_words.specs.declared.command_arguments.Format.TheVariants as format

@@ -3,8 +3,8 @@ use Rattle.std.specs.Prelude.{◌≡◌, List, [], ◌∷◌, Bool, true, false,
 use Rattle.cargo_workspaces.specs.Workspaces.{Text, WorkspaceText}
 use Rattle.cargo_plans.specs.Plans.{WordsText}
 use Rattle.feats_files.specs.Files.{FileText}
-use Rattle.plan_platforms.specs.DeclaredSpecs.{DeclaredText}
-use Rattle.plan_platforms.specs.HeldSpecs.{is_declared}
+use Rattle.plan_rows.specs.platforms.DeclaredSpecs.{DeclaredText}
+use Rattle.plan_rows.specs.platforms.HeldSpecs.{is_declared}
 use Rattle.cargo_plans.specs.plan_steps.Plans.{PlanText}
 use Rattle.feats_check.specs.checking.Answers.{IsPolicyAnswer, IsPolicyRefusal}
 use Rattle.feats_check.specs.checking.Questions.{PrintedText, QuestionText}

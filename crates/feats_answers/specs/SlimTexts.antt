@@ -4,7 +4,7 @@ use Rattle.cargo_workspaces.specs.Workspaces.{Text, WorkspaceText}
 use Rattle.cargo_plans.specs.Plans.{WordsText}
 use Rattle.cargo_plans.specs.plan_units.Units.{UnitText}
 use Rattle.toml.specs.Data.{Data}
-use Rattle.inherited_dependencies.specs.Manifests.{AreManifests, IsNoManifests}
+use Rattle.cargo_manifests.specs.inherited.Manifests.{AreManifests, IsNoManifests}
 use Rattle.feats_files.specs.Messages.{joined}
 use Rattle.feats_words.specs.declared.command_arguments.Format.{Format}
 use Rattle.feats_slim.specs.answers.Texts.{IsSlimText}

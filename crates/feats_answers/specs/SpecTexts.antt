@@ -2,7 +2,7 @@
 use Rattle.std.specs.Prelude.{List, [], ◌∷◌, Bool, map, codes}
 use Rattle.std.specs.List.{zip}
 use Rattle.cargo_workspaces.specs.Workspaces.{Text}
-use Rattle.plan_platforms.specs.DeclaredSpecs.{DeclaredText}
+use Rattle.plan_rows.specs.platforms.DeclaredSpecs.{DeclaredText}
 use Rattle.feats_list.specs.platforms.Lines.{IsSpecLines}
 use Rattle.feats_list.specs.platforms.Lists.{PlaceText}
 use Rattle.feats_list.specs.platforms.Objects.{IsSpecObjects}

@@ -1,13 +1,13 @@
 -- The text about which wider selections turn on a feature that isn't built.
 use Rattle.std.specs.Prelude.{◌≡◌, ℕ, List, Bool, not, ◌||◌, filter, map, codes}
 use Rattle.std.specs.List.{AllZip}
-use Rattle.built_parts.specs.Built.{is_part_built}
+use Rattle.cargo_plans.specs.built_parts.Built.{is_part_built}
 use Rattle.feature_labels.specs.Names.{LabelName}
 use Rattle.cargo_workspaces.specs.Workspaces.{Text, WorkspaceText}
 use Rattle.cargo_plans.specs.Plans.{WordsText}
 use Rattle.plan_names.specs.Names.{NamedText}
-use Rattle.plan_platforms.specs.DeclaredSpecs.{DeclaredText}
-use Rattle.plan_platforms.specs.HeldSpecs.{is_declared}
+use Rattle.plan_rows.specs.platforms.DeclaredSpecs.{DeclaredText}
+use Rattle.plan_rows.specs.platforms.HeldSpecs.{is_declared}
 use Rattle.plan_rows.specs.declared.side.Side.{Side}
 use Rattle.plan_rows.specs.declared.side.Side.TheVariants.{Target, Host}
 use Rattle.cargo_plans.specs.plan_steps.Plans.{PlanText}

@@ -1,7 +1,7 @@
 -- The text about why a feature is on.
 use Rattle.std.specs.Prelude.{◌≡◌, List, [], ◌∷◌, ◌++◌, Bool, true, false, flat_map, Option, None, Some, codes}
-use Rattle.built_parts.specs.Built.{is_part_built, state_of}
-use Rattle.built_parts.specs.declared.state.PartState.TheVariants.{Built}
+use Rattle.cargo_plans.specs.built_parts.Built.{is_part_built, state_of}
+use Rattle.cargo_plans.specs.declared.built_parts.state.PartState.TheVariants.{Built}
 use Rattle.cargo_workspaces.specs.Workspaces.{Text, PackageText, WorkspaceText}
 use Rattle.cargo_plans.specs.Plans.{WordsText}
 use Rattle.plan_names.specs.Names.{NamedText}

@@ -1,18 +1,18 @@
 //! The spots that are built, and those that are on and not built.
 ghost use Rattle.std.specs.Prelude.{◌≡◌, IfOk, map, string_bytes};
-ghost use Rattle.built_parts.specs.BuiltViews.{is_built_in, script_in, state_in};
+ghost use Rattle.cargo_plans.specs.built_parts.BuiltViews.{is_built_in, script_in, state_in};
 ghost use Rattle.cargo_workspaces.specs.WorkspaceView.{workspace_text};
 ghost use Rattle.cargo_plans.specs.WordsView.{words_text};
-ghost use Rattle.plan_platforms.specs.HeldSpecs.{holds_on};
+ghost use Rattle.plan_rows.specs.platforms.HeldSpecs.{holds_on};
 ghost use Rattle.plan_whys.specs.StepViews.{spot_text};
 ghost use Rattle.why_lines.specs.Unbuilt.{unbuilt_text};
 ghost use Rattle.feats_answers.specs.BuiltSpots as spec;
 
-use built_parts::{BuiltParts, LackingScripts, PartState};
 use cargo_plans::PlanWords;
+use cargo_plans::built_parts::{BuiltParts, LackingScripts, PartState};
 use cargo_workspaces::Workspace;
 use feats_words::Format;
-use plan_platforms::HeldSpecs;
+use plan_rows::platforms::HeldSpecs;
 use plan_whys::Spot;
 use std::alloc::{AllocError, Global};
 use why_lines::{UnbuiltSpot, unbuilt_lines};

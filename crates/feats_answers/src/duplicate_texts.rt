@@ -10,7 +10,7 @@ ghost use Rattle.duplicate_lines.specs.plan_duplicates.DuplicatesView.{duplicate
 ghost use Rattle.duplicate_lines.specs.plan_duplicates.MemberPlans.{ArePlansAlone};
 ghost use Rattle.duplicate_lines.specs.plan_duplicates.Views.{member_plan_text};
 ghost use Rattle.duplicate_lines.specs.plan_duplicates.DisagreementViews.{disagreement_text};
-ghost use Rattle.plan_platforms.specs.HeldSpecs.{holds_on};
+ghost use Rattle.plan_rows.specs.platforms.HeldSpecs.{holds_on};
 ghost use Rattle.cargo_plans.specs.plan_steps.PlanViews.{plan_text};
 ghost use Rattle.cargo_plans.specs.plan_units.UnitViews.{unit_text};
 ghost use Rattle.feats_answers.specs.DuplicateTexts as spec;
@@ -25,7 +25,7 @@ use duplicate_lines::{
 };
 use feats_files::PlatformFile;
 use feats_words::Format;
-use plan_platforms::HeldSpecs;
+use plan_rows::platforms::HeldSpecs;
 use std::alloc::{AllocError, Global};
 
 /// Returns the text of `shown`.

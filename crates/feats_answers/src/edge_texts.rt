@@ -3,7 +3,7 @@ ghost use Rattle.std.specs.Prelude.{IfOk, IfErr, map, option_map};
 ghost use Rattle.cargo_plans.specs.WordsView.{words_text};
 ghost use Rattle.cargo_workspaces.specs.WorkspaceView.{workspace_text};
 ghost use Rattle.feats_files.specs.Messages.{Says};
-ghost use Rattle.plan_platforms.specs.HeldSpecs.{holds_on};
+ghost use Rattle.plan_rows.specs.platforms.HeldSpecs.{holds_on};
 ghost use Rattle.cargo_plans.specs.plan_steps.PlanViews.{plan_text};
 ghost use Rattle.feats_answers.specs.AnswerViews.{answer_text};
 ghost use Rattle.feats_answers.specs.Asked.{asked_text};
@@ -17,7 +17,7 @@ use cargo_plans::{Plan, PlanWords};
 use cargo_workspaces::Workspace;
 use feats_files::Fault;
 use feats_words::Edges;
-use plan_platforms::HeldSpecs;
+use plan_rows::platforms::HeldSpecs;
 use std::alloc::{AllocError, Global};
 
 /// Returns the answer to `tree`: with `invert`, about what leads to the part that this word names.

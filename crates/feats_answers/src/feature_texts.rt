@@ -5,7 +5,7 @@ ghost use Rattle.cargo_workspaces.specs.WorkspaceView.{workspace_text};
 ghost use Rattle.feats_files.specs.Messages.{Says};
 ghost use Rattle.feats_tree.specs.features.Trees.{IsFeatureTree, IsInvertedFeatureTree};
 ghost use Rattle.plan_names.specs.Views.{named_text};
-ghost use Rattle.plan_platforms.specs.HeldSpecs.{holds_on};
+ghost use Rattle.plan_rows.specs.platforms.HeldSpecs.{holds_on};
 ghost use Rattle.cargo_plans.specs.plan_steps.PlanViews.{plan_text};
 ghost use Rattle.feats_answers.specs.AnswerTexts.{IsPositive};
 ghost use Rattle.feats_answers.specs.AnswerViews.{answer_text};
@@ -20,10 +20,10 @@ use crate::why_texts::spots_of;
 use cargo_plans::{Plan, PlanWords};
 use cargo_workspaces::Workspace;
 use feats_files::Fault;
-use feats_words::Format;
 use feats_tree::features::{feature_dot, feature_tree, inverted_feature_tree};
+use feats_words::Format;
 use plan_names::Named;
-use plan_platforms::HeldSpecs;
+use plan_rows::platforms::HeldSpecs;
 use std::alloc::{AllocError, Global};
 
 /// Returns the answer with the trees of what the command line turns on.

@@ -1,11 +1,11 @@
 //! The labels that are built in a plan.
-ghost use Rattle.built_parts.specs.BuiltViews.{is_built_in};
+ghost use Rattle.cargo_plans.specs.built_parts.BuiltViews.{is_built_in};
 ghost use Rattle.feats_answers.specs.LabelsOn.{built_labels};
 
-use built_parts::BuiltParts;
 use cargo_plans::Side;
-use feature_labels::FeatureLabel;
+use cargo_plans::built_parts::BuiltParts;
 use feats_list::features::LabelsOn;
+use feature_labels::FeatureLabel;
 
 /// The labels that are built in a plan.
 #[derive(Clone, Copy)]

@@ -3,8 +3,8 @@ ghost use Rattle.std.specs.Prelude.{◌≡◌, ◌<◌, Ok, IfOk, IfErr, length,
 ghost use Rattle.cargo_workspaces.specs.Views.{package_text};
 ghost use Rattle.cargo_workspaces.specs.WorkspaceView.{workspace_text};
 ghost use Rattle.plan_names.specs.Faults.{package_named};
-ghost use Rattle.built_parts.specs.Built.{is_part_built};
-ghost use Rattle.built_parts.specs.BuiltViews.{is_built_in};
+ghost use Rattle.cargo_plans.specs.built_parts.Built.{is_part_built};
+ghost use Rattle.cargo_plans.specs.built_parts.BuiltViews.{is_built_in};
 ghost use Rattle.cargo_plans.specs.plan_steps.PlanViews.{plan_text};
 ghost use Rattle.feats_files.specs.Messages.{Says};
 ghost use Rattle.feats_answers.specs.ListTexts as spec;
@@ -12,12 +12,12 @@ ghost use Rattle.feats_answers.specs.NameMessages.{IsNameRefusal};
 
 use crate::labels_on::BuiltLabels;
 use crate::name_messages::name_refused;
-use built_parts::BuiltParts;
 use cargo_plans::Plan;
+use cargo_plans::built_parts::BuiltParts;
 use cargo_workspaces::{Package, Workspace};
 use feats_files::Fault;
-use feats_words::Format;
 use feats_list::features::{feature_lines, feature_objects};
+use feats_words::Format;
 use plan_names::package_named;
 use std::alloc::{AllocError, Global};
 

@@ -1,13 +1,13 @@
 //! The parts that aren't built in a plan.
 ghost use Rattle.std.specs.Prelude.{◌≡◌, IfOk, map};
-ghost use Rattle.built_parts.specs.BuiltViews.{is_built_in};
+ghost use Rattle.cargo_plans.specs.built_parts.BuiltViews.{is_built_in};
 ghost use Rattle.plan_names.specs.Views.{named_text};
 ghost use Rattle.cargo_plans.specs.plan_steps.PlanViews.{plan_text};
 ghost use Rattle.why_nots.specs.PartView.{part_text};
 ghost use Rattle.feats_answers.specs.WhyNotTexts as spec;
 
 use crate::parts::label_of;
-use built_parts::BuiltParts;
+use cargo_plans::built_parts::BuiltParts;
 use cargo_plans::{Plan, Side};
 use plan_names::Named;
 use std::alloc::{AllocError, Global};

@@ -1,15 +1,15 @@
 //! The places of a build, and the platform specs that hold there.
 ghost use Rattle.std.specs.Prelude.{◌≡◌, ◌++◌, IfOk, OnOk, map};
 ghost use Rattle.cargo_workspaces.specs.Views.{texts};
-ghost use Rattle.plan_platforms.specs.HeldSpecs.{holds_on};
+ghost use Rattle.plan_rows.specs.platforms.HeldSpecs.{holds_on};
 ghost use Rattle.feats_list.specs.platforms.Views.{place_text};
 ghost use Rattle.feats_files.specs.FileViews.{file_text};
 ghost use Rattle.feats_answers.specs.SpecTexts as spec;
 
 use crate::plan_texts::target_names;
 use feats_files::PlatformFile;
-use plan_platforms::HeldSpecs;
 use feats_list::platforms::NamedPlatform;
+use plan_rows::platforms::HeldSpecs;
 use std::alloc::{AllocError, Global};
 
 /// Appends the target platforms, each with its name.

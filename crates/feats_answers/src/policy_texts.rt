@@ -6,8 +6,8 @@ ghost use Rattle.cargo_workspaces.specs.Views.{texts};
 ghost use Rattle.cargo_workspaces.specs.WorkspaceView.{workspace_text};
 ghost use Rattle.feats_files.specs.FileViews.{file_text};
 ghost use Rattle.feats_files.specs.Messages.{Says};
-ghost use Rattle.plan_platforms.specs.HeldSpecs.{holds_on};
-ghost use Rattle.plan_platforms.specs.Views.{declared_text};
+ghost use Rattle.plan_rows.specs.platforms.HeldSpecs.{holds_on};
+ghost use Rattle.plan_rows.specs.platforms.Views.{declared_text};
 ghost use Rattle.cargo_plans.specs.plan_steps.PlanViews.{plan_text};
 ghost use Rattle.feats_check.specs.checking.Answers.{IsPolicyAnswer, IsPolicyRefusal};
 ghost use Rattle.feats_check.specs.checking.QuestionViews.{question_text};
@@ -20,9 +20,9 @@ use crate::asked::Asked;
 use crate::plan_texts::triples_of;
 use cargo_plans::{Plan, PlanWords};
 use cargo_workspaces::Workspace;
-use feats_files::{Fault, PlatformFile};
-use plan_platforms::{DeclaredSpec, HeldSpecs, every_spec};
 use feats_check::checking::{PolicyQuestion, policy_answer};
+use feats_files::{Fault, PlatformFile};
+use plan_rows::platforms::{DeclaredSpec, HeldSpecs, every_spec};
 use std::alloc::{AllocError, Global};
 
 /// The policy that `check` is about.

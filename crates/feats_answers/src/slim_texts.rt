@@ -4,19 +4,19 @@ ghost use Rattle.cargo_workspaces.specs.WorkspaceView.{workspace_text};
 ghost use Rattle.cargo_plans.specs.WordsView.{words_text};
 ghost use Rattle.cargo_plans.specs.plan_steps.PlanViews.{plan_text};
 ghost use Rattle.toml.specs.View.{view};
-ghost use Rattle.inherited_dependencies.specs.Manifests.{AreManifests, IsNoManifests};
+ghost use Rattle.cargo_manifests.specs.inherited.Manifests.{AreManifests, IsNoManifests};
 ghost use Rattle.feats_files.specs.Messages.{Says};
-ghost use Rattle.plan_platforms.specs.HeldSpecs.{holds_on};
+ghost use Rattle.plan_rows.specs.platforms.HeldSpecs.{holds_on};
 ghost use Rattle.feats_slim.specs.answers.Texts.{IsSlimText};
 ghost use Rattle.feats_answers.specs.SlimTexts as spec;
 
+use cargo_manifests::inherited::{ManifestsFault, manifests_in};
 use cargo_plans::{Plan, PlanWords};
 use cargo_workspaces::Workspace;
 use feats_files::{Fault, refused};
-use feats_words::Format;
-use inherited_dependencies::{ManifestsFault, manifests_in};
-use plan_platforms::HeldSpecs;
 use feats_slim::answers::slim_text as text_of_slims;
+use feats_words::Format;
+use plan_rows::platforms::HeldSpecs;
 use std::alloc::{AllocError, Global};
 use toml::Value;
 

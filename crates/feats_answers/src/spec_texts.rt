@@ -1,16 +1,16 @@
 //! The text about the platform specs of a workspace.
 ghost use Rattle.std.specs.Prelude.{IfOk, map};
-ghost use Rattle.plan_platforms.specs.HeldSpecs.{holds_on};
-ghost use Rattle.plan_platforms.specs.Views.{declared_text};
+ghost use Rattle.plan_rows.specs.platforms.HeldSpecs.{holds_on};
+ghost use Rattle.plan_rows.specs.platforms.Views.{declared_text};
 ghost use Rattle.feats_list.specs.platforms.Views.{place_text};
 ghost use Rattle.feats_files.specs.FileViews.{file_text};
 ghost use Rattle.feats_answers.specs.SpecTexts as spec;
 
 use crate::places::places_of;
 use feats_files::PlatformFile;
-use feats_words::Format;
-use plan_platforms::{DeclaredSpec, HeldSpecs};
 use feats_list::platforms::{NamedPlatform, spec_lines, spec_objects};
+use feats_words::Format;
+use plan_rows::platforms::{DeclaredSpec, HeldSpecs};
 use std::alloc::{AllocError, Global};
 
 /// Returns the text about `specs` in these places.

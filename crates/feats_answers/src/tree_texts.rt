@@ -21,8 +21,8 @@ use crate::plan_texts::target_names;
 use cargo_plans::Plan;
 use cargo_workspaces::Workspace;
 use feats_files::{Fault, PlatformFile};
-use feats_words::Format;
 use feats_tree::features::{inverted_package_tree, package_dot, package_tree};
+use feats_words::Format;
 use std::alloc::{AllocError, Global};
 
 /// Returns the answer with the trees of what started packages depend on.

@@ -9,7 +9,7 @@ use Rattle.cargo_workspaces.specs.Workspaces.{Text}
 use Rattle.feats_files.specs.Messages.{Says}
 use Rattle.feats_files.specs.declared.fault.Fault.{Fault}
 use Rattle.cargo_plans.specs.plan_steps.Plans.{PlanText}
-use Rattle.plan_platforms.specs.HeldSpecs.{holds_on}
+use Rattle.plan_rows.specs.platforms.HeldSpecs.{holds_on}
 use Rattle.feats_check.specs.checking.Answers.{AreScenesOf, IsAnswerWith, IsRefusalWith, no_check, no_plan}
 use Rattle.feats_check.specs.checking.Broken.{IsPolicyText, IsRulesRefusal}
 use Rattle.feats_check.specs.checking.QuestionViews.{printed_text}
@@ -19,8 +19,8 @@ use Rattle.feats_check.specs.declared.checking.planned.WidePlans.{WidePlans}
 use Rattle.feats_check.specs.declared.checking.planned.WideWords.{WideWords}
 use Rattle.feats_check.specs.declared.checking.question.PolicyText.{PolicyText}
 use Rattle.feats_check.specs.checking.inner.WidePlans.{AreWidePlans, IsNoWidePlan, scenes_with}
-use Rattle.policy_checks.specs.declared.judged.Judged.{Judged}
-use Rattle.policy_checks.specs.declared.judged.Judged.TheVariants.{ForEveryChoice, WithAll}
+use Rattle.policies.specs.declared.checks.judged.Judged.{Judged}
+use Rattle.policies.specs.declared.checks.judged.Judged.TheVariants.{ForEveryChoice, WithAll}
 use Rattle.feats_check.proofs.Refusals.{says_more}
 
 -- what follows from an error

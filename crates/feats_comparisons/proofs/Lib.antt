@@ -1,2 +1,6 @@
 pub mod Marks
+pub mod PartLists
 pub mod Related
+pub mod ShownLists
+pub mod WhyLists
+pub mod Zips

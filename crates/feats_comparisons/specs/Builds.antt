@@ -1,6 +1,6 @@
 -- The build of a plan.
-use Rattle.feats_differences.specs.feats_answers.PlanTexts.{target_names}
-use Rattle.feats_differences.specs.Builds.{BuildText}
+use Rattle.feats_answers.specs.PlanTexts.{target_names}
+use Rattle.feats_comparisons.specs.differences.Builds.{BuildText}
 use Rattle.feats_plans.specs.Planned.{PlannedText}
 
 abbrev pub build_of : PlannedText → BuildText

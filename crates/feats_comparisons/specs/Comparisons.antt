@@ -1,10 +1,10 @@
 -- The answer to `diff` about two sides, or the message why there is none.
 use Rattle.std.specs.Prelude.{◌≡◌, true}
 use Rattle.cargo_workspaces.specs.Workspaces.{Text}
-use Rattle.feats_differences.specs.feats_answers.AnswerTexts.{AnswerText}
+use Rattle.feats_answers.specs.AnswerTexts.{AnswerText}
 use Rattle.feats_comparisons.specs.Builds.{build_of}
 use Rattle.feats_comparisons.specs.Sides.{SideText}
-use Rattle.feats_differences.specs.Answers.{IsDiffAnswer}
+use Rattle.feats_comparisons.specs.differences.Answers.{IsDiffAnswer}
 use Rattle.feats_files.specs.Showing.{shown_in}
 use Rattle.feats_plans.specs.Planned.{PlannedText}
 use Rattle.feats_plans.specs.Planning.{AfterPlanning, IsPlanningRefusal}

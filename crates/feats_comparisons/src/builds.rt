@@ -2,15 +2,15 @@
 ghost use Rattle.std.specs.Prelude.{◌≡◌, IfOk, map};
 ghost use Rattle.cargo_workspaces.specs.Views.{texts};
 ghost use Rattle.cargo_plans.specs.Plans.{IsPlanOf};
-ghost use Rattle.feats_differences.specs.feats_answers.AnswerViews.{answer_text};
-ghost use Rattle.feats_differences.specs.feats_answers.PlanTexts as places;
+ghost use Rattle.feats_answers.specs.AnswerViews.{answer_text};
+ghost use Rattle.feats_answers.specs.PlanTexts as places;
 ghost use Rattle.feats_comparisons.specs.Builds as spec;
-ghost use Rattle.feats_differences.specs.Answers.{IsDiffAnswer};
-ghost use Rattle.feats_differences.specs.Views.{build_text};
+ghost use Rattle.feats_comparisons.specs.differences.Answers.{IsDiffAnswer};
+ghost use Rattle.feats_comparisons.specs.differences.Views.{build_text};
 ghost use Rattle.feats_files.specs.FileViews.{file_text};
 ghost use Rattle.feats_plans.specs.PlannedView.{planned_text};
 
-use feats_differences::{Answer, Build, run_diff};
+use crate::differences::{Answer, Build, run_diff};
 use feats_files::PlatformFile;
 use feats_plans::Planned;
 use std::alloc::{AllocError, Global};

@@ -1,13 +1,13 @@
 //! The comparison of two builds.
 ghost use Rattle.std.specs.Prelude.{IfOk, IfErr};
-ghost use Rattle.feats_differences.specs.feats_answers.AnswerViews.{answer_text};
+ghost use Rattle.feats_answers.specs.AnswerViews.{answer_text};
 ghost use Rattle.feats_comparisons.specs.Comparisons.{IsComparison, IsNoComparison, IsShown};
 ghost use Rattle.feats_comparisons.specs.SideView.{side_text};
 ghost use Rattle.feats_files.specs.Messages.{Says};
 
+use crate::differences::Answer;
 use crate::sides::Side;
 use crate::visitors::OldVisitor;
-use feats_differences::Answer;
 use feats_files::{Fault, shown_answer};
 use feats_plans::visit_plan;
 use std::alloc::Global;

@@ -4,6 +4,7 @@
 mod builds;
 mod command_lines;
 mod comparing;
+pub mod differences;
 mod documents;
 mod engine;
 mod formats;
@@ -12,8 +13,8 @@ mod visitors;
 
 pub use command_lines::{ComparedWords, compared_words};
 pub use comparing::compare;
+pub use differences::Answer;
 pub use documents::{ComparedRequests, compared_requests};
 pub use engine::{run, run_by_one_document};
-pub use feats_differences::Answer;
 pub use formats::one_format;
 pub use sides::{Side, SideInputs};

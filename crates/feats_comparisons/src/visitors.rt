@@ -1,15 +1,15 @@
 //! The visitors of the two plans.
 ghost use Rattle.std.specs.Prelude.{◌≡◌};
-ghost use Rattle.feats_differences.specs.feats_answers.AnswerViews.{answer_text};
+ghost use Rattle.feats_answers.specs.AnswerViews.{answer_text};
 ghost use Rattle.feats_comparisons.specs.Builds.{build_of};
 ghost use Rattle.feats_comparisons.specs.Comparisons.{IsAnswerFor, IsNewRefusal};
 ghost use Rattle.feats_comparisons.specs.SideView.{side_text};
-ghost use Rattle.feats_differences.specs.Answers.{IsDiffAnswer};
+ghost use Rattle.feats_comparisons.specs.differences.Answers.{IsDiffAnswer};
 ghost use Rattle.feats_plans.specs.PlannedView.{planned_text};
 
 use crate::builds::difference;
+use crate::differences::Answer;
 use crate::sides::Side;
-use feats_differences::Answer;
 use feats_files::Fault;
 use feats_plans::{PlanVisitor, Planned, visit_plan};
 use std::alloc::Global;

@@ -3,8 +3,8 @@ use Rattle.std.proofs.Common.{◌≡◌, ◌∙◌, ℕ, ◌<◌, ◌+◌, List,
 use Rattle.std.proofs.lemmas.List.{map-append, take_more}
 use Rattle.cargo_workspaces.specs.Workspaces.{Text}
 use Rattle.platform_specs.specs.Expressions.{Target}
-use Rattle.plan_platforms.specs.DeclaredSpecs.{DeclaredText}
-use Rattle.plan_platforms.specs.HeldSpecs.{AreHeld}
+use Rattle.plan_rows.specs.platforms.DeclaredSpecs.{DeclaredText}
+use Rattle.plan_rows.specs.platforms.HeldSpecs.{AreHeld}
 use Rattle.feats_files.specs.Platforms.{AreHeldOnEach}
 
 held_push : (ts : List Target) (specs : List DeclaredText) (hs : List (Text → Bool)) (t : Target) (h : Text → Bool) → AreHeldOnEach ts specs hs → AreHeld t specs h → AreHeldOnEach (ts ++ t ∷ []) specs (hs ++ h ∷ [])

@@ -6,11 +6,11 @@ use Rattle.platform_specs.specs.Expressions.{Target}
 use Rattle.platform_specs.specs.Faults.{IsCfgFault}
 use Rattle.platform_specs.specs.Grammar.{IsTarget}
 use Rattle.platform_specs.specs.declared.fault.CfgFault.TheVariants as cfg
-use Rattle.manifest_resolvers.specs.Resolvers.{IsResolverOf, key_text}
-use Rattle.manifest_resolvers.specs.declared.fault.KeyFault.TheVariants.{Unknown, Missing}
-use Rattle.manifest_resolvers.specs.declared.fault.ManifestFault.{ManifestFault}
-use Rattle.manifest_resolvers.specs.declared.fault.ManifestFault.TheVariants as manifest
-use Rattle.manifest_resolvers.specs.declared.resolver.Resolver.{Resolver}
+use Rattle.cargo_manifests.specs.resolvers.Resolvers.{IsResolverOf, key_text}
+use Rattle.cargo_manifests.specs.declared.resolvers.fault.KeyFault.TheVariants.{Unknown, Missing}
+use Rattle.cargo_manifests.specs.declared.resolvers.fault.ManifestFault.{ManifestFault}
+use Rattle.cargo_manifests.specs.declared.resolvers.fault.ManifestFault.TheVariants as manifest
+use Rattle.cargo_manifests.specs.declared.resolvers.resolver.Resolver.{Resolver}
 use Rattle.feats_files.specs.Messages.{joined}
 use Rattle.feats_words.specs.Arguments.{SourceText, version_given, manifest_at}
 

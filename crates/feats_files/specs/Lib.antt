@@ -7,3 +7,4 @@ pub mod Platforms
 pub mod Showing
 pub mod WordMessages
 pub mod Writing
+pub mod plan_messages

@@ -3,11 +3,11 @@ use Rattle.std.specs.Prelude.{◌≡◌, ℕ, List, [], ◌∷◌, Bool, true, f
 use Rattle.std.specs.Option.{option_map_or}
 use Rattle.cargo_workspaces.specs.Workspaces.{Text, PackageText}
 use Rattle.platform_specs.specs.Expressions.{Target}
-use Rattle.plan_platforms.specs.DeclaredSpecs.{DeclaredText}
-use Rattle.plan_platforms.specs.HeldSpecs.{AreHeld}
-use Rattle.plan_platforms.specs.SpecFaults.{IsFaultOf}
-use Rattle.plan_platforms.specs.declared.fault.PlatformFault.{PlatformFault}
-use Rattle.plan_platforms.specs.declared.fault.PlatformFault.TheVariants.{Malformed, Memory}
+use Rattle.plan_rows.specs.platforms.DeclaredSpecs.{DeclaredText}
+use Rattle.plan_rows.specs.platforms.HeldSpecs.{AreHeld}
+use Rattle.plan_rows.specs.platforms.SpecFaults.{IsFaultOf}
+use Rattle.plan_rows.specs.declared.platforms.fault.PlatformFault.{PlatformFault}
+use Rattle.plan_rows.specs.declared.platforms.fault.PlatformFault.TheVariants.{Malformed, Memory}
 use Rattle.feats_files.specs.Messages.{joined}
 
 -- The specs that hold on each of the targets are those that hold for it.

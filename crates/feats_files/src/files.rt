@@ -9,8 +9,8 @@ ghost use Rattle.feats_files.specs.Messages.{IsRefused, Says};
 
 use crate::fault::Fault;
 use crate::message::refused;
+use cargo_manifests::resolvers::{KeyFault, ManifestFault, Resolver, resolver_of_bytes};
 use feats_words::ResolverSource;
-use manifest_resolvers::{KeyFault, ManifestFault, Resolver, resolver_of_bytes};
 use platform_specs::{CfgFault, TargetCfg};
 use std::alloc::{AllocError, Global};
 use std::str;

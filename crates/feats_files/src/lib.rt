@@ -6,6 +6,7 @@ mod fault;
 mod files;
 mod message;
 mod opening;
+pub mod plan_messages;
 mod platforms;
 mod showing;
 mod word_messages;

@@ -1,15 +1,15 @@
 //! The platform specs that hold on the platforms of a plan.
 ghost use Rattle.std.specs.Prelude.{◌≡◌, IfOk, IfErr, map};
 ghost use Rattle.cargo_workspaces.specs.WorkspaceView.{workspace_text};
-ghost use Rattle.plan_platforms.specs.HeldSpecs.{AreHeld, holds_on};
-ghost use Rattle.plan_platforms.specs.Views.{declared_text};
+ghost use Rattle.plan_rows.specs.platforms.HeldSpecs.{AreHeld, holds_on};
+ghost use Rattle.plan_rows.specs.platforms.Views.{declared_text};
 ghost use Rattle.feats_files.specs.Messages.{IsRefused, Says};
 ghost use Rattle.feats_files.specs.Platforms as spec;
 
 use crate::fault::Fault;
 use crate::message::refused;
 use cargo_workspaces::Workspace;
-use plan_platforms::{DeclaredSpec, HeldSpecs, PlatformFault, held_specs};
+use plan_rows::platforms::{DeclaredSpec, HeldSpecs, PlatformFault, held_specs};
 use platform_specs::TargetCfg;
 use std::alloc::Global;
 

@@ -2,7 +2,7 @@
 use Rattle.std.proofs.Common.{◌≡◌, List, subst}
 use Rattle.cargo_workspaces.specs.Workspaces.{Text}
 use Rattle.platform_specs.specs.Expressions.{Target}
-use Rattle.manifest_resolvers.specs.declared.resolver.Resolver.{Resolver}
+use Rattle.cargo_manifests.specs.declared.resolvers.resolver.Resolver.{Resolver}
 use Rattle.feats_files.specs.Files.{FileText, IsCfgRefusal, IsFirstCfgRefusal, IsTargetOf, IsVersion, target_files}
 use Rattle.feats_plans.specs.Bases.{IsBasisRefusal, of_host, of_targets}
 use Rattle.feats_plans.specs.Inputs.{InputsText}

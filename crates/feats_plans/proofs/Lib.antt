@@ -1,4 +1,9 @@
 pub mod Bases
+pub mod Names
 pub mod NoWorkspaces
+pub mod Places
 pub mod Says
+pub mod Sound
 pub mod Stages
+pub mod Steps
+pub mod Zips

@@ -2,10 +2,10 @@
 use Rattle.std.proofs.Common.{◌≡◌, subst, sym, Result, Err}
 use Rattle.std.specs.Prelude.{IsErrAnd}
 use Rattle.cargo_workspaces.specs.Workspaces.{Text, WorkspaceText}
-use Rattle.numbered_workspaces.specs.Faults.{NoWorkspace}
-use Rattle.numbered_workspaces.specs.Gives.{Claims}
-use Rattle.numbered_workspaces.specs.declared.fault.WorkspaceFault.{WorkspaceFault}
-use Rattle.numbered_workspaces.specs.declared.fault.WorkspaceFault.TheVariants as fault
+use Rattle.feats_plans.specs.numbered_workspaces.Faults.{NoWorkspace}
+use Rattle.feats_plans.specs.numbered_workspaces.Gives.{Claims}
+use Rattle.feats_plans.specs.declared.numbered_workspaces.fault.WorkspaceFault.{WorkspaceFault}
+use Rattle.feats_plans.specs.declared.numbered_workspaces.fault.WorkspaceFault.TheVariants as fault
 use Rattle.feats_plans.specs.DocumentMessages.{IsMessageOf, document_message}
 
 module _ (given : Result WorkspaceText NoWorkspace) (m : Text) where

@@ -3,8 +3,8 @@ use Rattle.std.proofs.Common.{◌≡◌, List, Bool, subst, sym}
 use Rattle.cargo_workspaces.specs.Workspaces.{Text, WorkspaceText}
 use Rattle.cargo_plans.specs.Plans.{WordsText}
 use Rattle.platform_specs.specs.Expressions.{Target}
-use Rattle.plan_platforms.specs.DeclaredSpecs.{DeclaredText, declared_specs}
-use Rattle.plan_platforms.specs.HeldSpecs.{AreHeld}
+use Rattle.plan_rows.specs.platforms.DeclaredSpecs.{DeclaredText, declared_specs}
+use Rattle.plan_rows.specs.platforms.HeldSpecs.{AreHeld}
 use Rattle.feats_files.specs.Platforms.{AreHeldOnEach}
 use Rattle.feats_plans.specs.Bases.{BasisText}
 use Rattle.feats_plans.specs.Inputs.{InputsText}

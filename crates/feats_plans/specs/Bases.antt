@@ -2,7 +2,7 @@
 use Rattle.std.specs.Prelude.{List}
 use Rattle.cargo_workspaces.specs.Workspaces.{Text}
 use Rattle.platform_specs.specs.Expressions.{Target}
-use Rattle.manifest_resolvers.specs.declared.resolver.Resolver.{Resolver}
+use Rattle.cargo_manifests.specs.declared.resolvers.resolver.Resolver.{Resolver}
 use Rattle.feats_files.specs.Files.{AreTargetsOf, IsCfgRefusal, IsFirstCfgRefusal, IsTargetOf, IsVersion, IsVersionRefusal, target_files}
 use Rattle.feats_plans.specs.Inputs.{InputsText}
 

@@ -3,9 +3,9 @@ use Rattle.std.specs.Prelude.{◌≡◌, [], ◌∷◌, codes}
 use Rattle.cargo_json.specs.Faults.{Refusal, bad_field, repeated, no_package, ambiguous, two_names as read_two_names, control, every_platform, no_deps, out_of_memory, place_text, refusal_of}
 use Rattle.cargo_json.specs.declared.fault.Place.{Place}
 use Rattle.cargo_workspaces.specs.Workspaces.{Text}
-use Rattle.numbered_workspaces.specs.Faults.{NoWorkspace, unread, feature_name, two_names}
-use Rattle.numbered_workspaces.specs.declared.fault.WorkspaceFault.{WorkspaceFault}
-use Rattle.numbered_workspaces.specs.declared.fault.WorkspaceFault.TheVariants as fault
+use Rattle.feats_plans.specs.numbered_workspaces.Faults.{NoWorkspace, unread, feature_name, two_names}
+use Rattle.feats_plans.specs.declared.numbered_workspaces.fault.WorkspaceFault.{WorkspaceFault}
+use Rattle.feats_plans.specs.declared.numbered_workspaces.fault.WorkspaceFault.TheVariants as fault
 use Rattle.feats_files.specs.Messages.{joined}
 
 -- The message about a field of an object of the document.

@@ -6,3 +6,4 @@ pub mod Planned
 pub mod PlannedView
 pub mod Planning
 pub mod Selections
+pub mod numbered_workspaces

@@ -1,7 +1,7 @@
 -- A `Planned` as a `PlannedText`.
 use Rattle.cargo_workspaces.specs.WorkspaceView.{workspace_text}
 use Rattle.cargo_plans.specs.WordsView.{words_text}
-use Rattle.plan_platforms.specs.HeldSpecs.{holds_on}
+use Rattle.plan_rows.specs.platforms.HeldSpecs.{holds_on}
 use Rattle.cargo_plans.specs.plan_steps.PlanViews.{plan_text}
 use Rattle.feats_plans.specs.Inputs.{inputs_text}
 use Rattle.feats_plans.specs.Planned.{PlannedText}

@@ -2,10 +2,10 @@
 use Rattle.std.specs.Prelude.{◌≡◌, List, [], ◌∷◌, Bool, IsFalse, None, Ok, IsErrAnd, IsSomeAnd, IsUtf8, codes}
 use Rattle.json.specs.Json.{Json}
 use Rattle.cargo_workspaces.specs.Workspaces.{Text, WorkspaceText}
-use Rattle.numbered_workspaces.specs.Faults.{workspace_in}
-use Rattle.plan_platforms.specs.DeclaredSpecs.{declared_specs}
-use Rattle.plan_platforms.specs.HeldSpecs.{AreHeld}
-use Rattle.plan_messages.specs.Messages.{plan_message}
+use Rattle.feats_plans.specs.numbered_workspaces.Faults.{workspace_in}
+use Rattle.plan_rows.specs.platforms.DeclaredSpecs.{declared_specs}
+use Rattle.plan_rows.specs.platforms.HeldSpecs.{AreHeld}
+use Rattle.feats_files.specs.plan_messages.Messages.{plan_message}
 use Rattle.cargo_plans.specs.plan_steps.Plans.{PlanText}
 use Rattle.cargo_plans.specs.Plans.{WordsText, IsPlanOf}
 use Rattle.cargo_plans.specs.Refusals.{IsRefusal, is_memory}

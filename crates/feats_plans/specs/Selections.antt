@@ -2,8 +2,8 @@
 use Rattle.std.specs.Prelude.{List, [], ◌∷◌, Bool, if◌then◌else◌}
 use Rattle.cargo_workspaces.specs.Workspaces.{Text}
 use Rattle.plan_words.specs.Selections.{ChoiceText, SelectionText, all_members, default_members, named}
-use Rattle.manifest_resolvers.specs.declared.resolver.Resolver.{Resolver}
-use Rattle.manifest_resolvers.specs.Resolvers.{is_split}
+use Rattle.cargo_manifests.specs.declared.resolvers.resolver.Resolver.{Resolver}
+use Rattle.cargo_manifests.specs.resolvers.Resolvers.{is_split}
 use Rattle.feats_words.specs.Arguments.{ArgumentsText}
 use Rattle.cargo_plans.specs.Plans.{WordsText}
 

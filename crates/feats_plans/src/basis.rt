@@ -6,9 +6,9 @@ ghost use Rattle.feats_plans.specs.BasisView.{basis_text};
 ghost use Rattle.feats_plans.specs.Inputs.{inputs_text};
 
 use crate::inputs::PlanFiles;
+use cargo_manifests::resolvers::Resolver;
 use feats_files::{Fault, resolver, target, target_platforms};
 use feats_words::CommandArguments;
-use manifest_resolvers::Resolver;
 use platform_specs::TargetCfg;
 use std::alloc::Global;
 

@@ -4,9 +4,9 @@ ghost use Rattle.cargo_json.specs.Faults.{place_text, refusal_of};
 ghost use Rattle.feats_files.specs.Messages.{IsRefused, Says};
 ghost use Rattle.feats_plans.specs.DocumentMessages as spec;
 
+use crate::numbered_workspaces::WorkspaceFault;
 use cargo_json::{DocumentFault, Place};
 use feats_files::{Fault, refused};
-use numbered_workspaces::WorkspaceFault;
 use std::alloc::{AllocError, Global};
 
 /// Returns the path of an object of the document.

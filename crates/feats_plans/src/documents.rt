@@ -2,15 +2,15 @@
 ghost use Rattle.std.specs.Prelude.{◌≡◌, Ok, IfOk, IfErr, IsErrAnd};
 ghost use Rattle.json.specs.Value.{value_view};
 ghost use Rattle.cargo_workspaces.specs.WorkspaceView.{workspace_text};
-ghost use Rattle.numbered_workspaces.specs.Faults as spec;
+ghost use Rattle.feats_plans.specs.numbered_workspaces.Faults as spec;
 ghost use Rattle.feats_files.specs.Messages.{Says};
 ghost use Rattle.feats_plans.specs.DocumentMessages.{document_message};
 
 use crate::document_messages::document_refused;
+use crate::numbered_workspaces::workspace_in;
 use cargo_workspaces::Workspace;
 use feats_files::Fault;
 use json::Value;
-use numbered_workspaces::workspace_in;
 use std::alloc::Global;
 
 /// Returns the workspace that `document` describes.

@@ -5,6 +5,7 @@ mod basis;
 mod document_messages;
 mod documents;
 mod inputs;
+pub mod numbered_workspaces;
 mod planned;
 mod planning;
 mod visits;

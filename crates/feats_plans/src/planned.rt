@@ -2,8 +2,8 @@
 ghost use Rattle.std.specs.Prelude.{◌≡◌, IfOk, IfErr, map};
 ghost use Rattle.cargo_workspaces.specs.Workspaces.{Text};
 ghost use Rattle.cargo_plans.specs.Plans.{IsPlanOf};
-ghost use Rattle.plan_platforms.specs.DeclaredSpecs.{declared_specs};
-ghost use Rattle.plan_platforms.specs.Views.{declared_text};
+ghost use Rattle.plan_rows.specs.platforms.DeclaredSpecs.{declared_specs};
+ghost use Rattle.plan_rows.specs.platforms.Views.{declared_text};
 ghost use Rattle.feats_files.specs.Messages.{Says};
 ghost use Rattle.feats_plans.specs.Planned.{PlannedText};
 ghost use Rattle.feats_plans.specs.PlannedView.{planned_text};
@@ -13,7 +13,7 @@ use cargo_plans::{Plan, PlanWords};
 use cargo_workspaces::Workspace;
 use feats_files::Fault;
 use feats_words::CommandArguments;
-use plan_platforms::{DeclaredSpec, HeldSpecs};
+use plan_rows::platforms::{DeclaredSpec, HeldSpecs};
 use std::alloc::Global;
 
 /// A plan, with the arguments, the files and the workspace that it is made from.

@@ -1,29 +1,28 @@
 //! The plan of a workspace, which is passed to a visitor.
 ghost use Rattle.std.specs.Prelude.{◌≡◌, IfOk, IfErr, map};
 ghost use Rattle.cargo_workspaces.specs.WorkspaceView.{workspace_text};
-ghost use Rattle.plan_platforms.specs.DeclaredSpecs.{declared_specs};
-ghost use Rattle.plan_platforms.specs.HeldSpecs.{holds_on};
-ghost use Rattle.plan_platforms.specs.Views.{declared_text};
+ghost use Rattle.plan_rows.specs.platforms.DeclaredSpecs.{declared_specs};
+ghost use Rattle.plan_rows.specs.platforms.HeldSpecs.{holds_on};
+ghost use Rattle.plan_rows.specs.platforms.Views.{declared_text};
 ghost use Rattle.plan_words.specs.Selections.{choice_text, selection_text};
 ghost use Rattle.cargo_plans.specs.WordsView.{words_text};
 ghost use Rattle.feats_words.specs.Views.{arguments_text};
 ghost use Rattle.feats_files.specs.Messages.{Says};
 ghost use Rattle.feats_plans.specs.BasisView.{basis_text};
 ghost use Rattle.feats_plans.specs.Inputs.{inputs_text};
-ghost use Rattle.cargo_plans.specs.Refusals.{is_memory};
 ghost use Rattle.feats_plans.specs.Planning.{AfterPlan, AfterPlatforms, IsPlanRefusal, IsPlatformRefusal};
 ghost use Rattle.feats_plans.specs.Selections as spec;
 
 use crate::basis::Basis;
 use crate::inputs::PlanFiles;
 use crate::planned::{PlanVisitor, Planned};
-use cargo_plans::{PackageChoice, PlanFault, PlanWords, Selection, StepFault, plan};
+use cargo_manifests::resolvers::Resolver;
+use cargo_plans::{PackageChoice, PlanWords, Selection, plan};
 use cargo_workspaces::Workspace;
+use feats_files::plan_messages::{is_memory, plan_refused};
 use feats_files::{Fault, held_on, held_on_each};
 use feats_words::CommandArguments;
-use manifest_resolvers::Resolver;
-use plan_messages::plan_refused;
-use plan_platforms::{DeclaredSpec, HeldSpecs, declared_specs};
+use plan_rows::platforms::{DeclaredSpec, HeldSpecs, declared_specs};
 use std::alloc::Global;
 
 /// Returns the packages that `arguments` select.
@@ -67,13 +66,6 @@ fn words_by<'s, 'n, 'h>(
         host,
         targets,
     }
-}
-
-/// Returns whether `fault` is that an allocation failed.
-fn is_memory(fault: &PlanFault<'_>) -> bool
-    ensures { result ≡ is_memory fault.now }
-{
-    matches!(fault, PlanFault::Steps(StepFault::Memory))
 }
 
 /// Returns the output of `visitor` for the plan of `words`. `specs` are the platform specs of the workspace.

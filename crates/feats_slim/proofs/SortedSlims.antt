@@ -5,8 +5,8 @@ use Rattle.std.specs.List.{AllByRecursion}
 use Rattle.std.specs.List.Sorted.{IsSortedBy, IsStable, IsStableBy, ties}
 use Rattle.std.specs.Ordering.{is_lt}
 use Rattle.std.proofs.lemmas.List.Sorted.{sorted_far, ranks_by}
-use Rattle.workspace_edits.specs.declared.edits.EditPlace.TheVariants as place
-use Rattle.workspace_edits.specs.declared.edits.Without.TheVariants as without
+use Rattle.cargo_manifests.specs.declared.edits.EditPlace.TheVariants as place
+use Rattle.cargo_manifests.specs.declared.edits.Without.TheVariants as without
 use Rattle.feats_slim.specs.edits.Orders.{Descends, SlimText, slim_cmp, slim_total}
 use Rattle.feats_slim.specs.edits.SlimViews.{slim_text}
 use Rattle.feats_slim.specs.declared.edits.lost.Slim.{Slim}

@@ -10,7 +10,7 @@ mod places;
 mod slims;
 mod trials;
 
+pub use cargo_manifests::{Edit, EditPlace, Inheritance, Without};
 pub use cargo_plans::{Plan, PlanWords, WordFault};
 pub use lost::Slim;
 pub use slims::slims_of;
-pub use workspace_edits::{Edit, EditPlace, Inheritance, Without};

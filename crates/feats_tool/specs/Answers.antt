@@ -10,7 +10,7 @@ use Rattle.feats_plans.specs.Planned.{PlannedText}
 use Rattle.feats_plans.specs.Planning.{AfterPlanning, IsPlanningRefusal}
 use Rattle.feats_tool.specs.Rules.{AreRules, IsRulesRefusal}
 use Rattle.feats_words.specs.Requests.{QuestionText, check}
-use Rattle.lost_dependencies.specs.Lost.{lost_lines}
+use Rattle.feats_tool.specs.lost_dependencies.Lost.{lost_lines}
 use Rattle.feats_check.specs.checking.Warnings.{ArePolicyWarnings, IsStrictRefusal, PolicyWordsText}
 use Rattle.policies.specs.Rules.{RuleText}
 use Rattle.shown_texts.specs.Plain.{is_plain}

@@ -3,3 +3,4 @@ pub mod Answers
 pub mod Rules
 pub mod Run
 pub mod WordFaults
+pub mod lost_dependencies

@@ -4,6 +4,7 @@
 mod answered;
 mod answers;
 mod engine;
+pub mod lost_dependencies;
 mod rules;
 mod visitor;
 mod word_faults;

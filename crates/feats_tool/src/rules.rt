@@ -6,10 +6,10 @@ ghost use Rattle.feats_words.specs.Views.{question_text};
 ghost use Rattle.policies.specs.Policies.{ArePolicy};
 ghost use Rattle.policies.specs.Views.{rule_text};
 
+use feats_check::texts::policy_refused;
 use feats_files::{Fault, refused};
 use feats_words::Question;
 use policies::{PolicyFault, Rule, parse};
-use feats_check::texts::policy_refused;
 use std::alloc::Global;
 use std::str;
 

@@ -8,18 +8,18 @@ ghost use Rattle.feats_answers.specs.Answers.{IsAnswerTo, IsNoAnswerTo};
 ghost use Rattle.feats_tool.specs.AnsweredView.{answered_text};
 ghost use Rattle.feats_tool.specs.Answers.{AreRuleWarnings, AreWarnings, IsPlanAnswer, IsPlanRefusal, IsStrictly, asked_by};
 ghost use Rattle.feats_check.specs.checking.WarningViews.{string_texts};
-ghost use Rattle.plan_platforms.specs.DeclaredSpecs.{declared_specs};
-ghost use Rattle.plan_platforms.specs.Views.{declared_text};
+ghost use Rattle.plan_rows.specs.platforms.DeclaredSpecs.{declared_specs};
+ghost use Rattle.plan_rows.specs.platforms.Views.{declared_text};
 ghost use Rattle.policies.specs.Views.{rule_text};
 
 use crate::answered::Answered;
+use crate::lost_dependencies::lost_lines;
 use feats_answers::{Answer, Asked, answer_to};
+use feats_check::checking::{PolicyWords, policy_warnings};
 use feats_files::Fault;
 use feats_plans::{PlanVisitor, Planned};
 use feats_words::Question;
-use lost_dependencies::lost_lines;
 use policies::Rule;
-use feats_check::checking::{PolicyWords, policy_warnings};
 use std::alloc::Global;
 
 /// Returns the warnings about `rules`, those of the policy; none, if the arguments name no policy.

@@ -5,10 +5,10 @@ use Rattle.std.specs.Global.{Vec}
 use Rattle.std.proofs.lemmas.Result.{IfOk-weaker}
 use Rattle.cargo_workspaces.specs.Workspaces.{PackageText, Text}
 use Rattle.feats_words.specs.declared.command_arguments.Format.{Format}
-use Rattle.link_trees.specs.Titles.{TitleText}
-use Rattle.plan_dots.specs.Dots.{NodeText, dot_text}
-use Rattle.plan_links.specs.SpotLinks.{AreSpotLinks, AreSpotsOn}
-use Rattle.plan_steps.specs.Plans.{PlanText}
+use Rattle.feats_tree.specs.trees.Titles.{TitleText}
+use Rattle.feats_tree.specs.dots.Dots.{NodeText, dot_text}
+use Rattle.plan_whys.specs.links.SpotLinks.{AreSpotLinks, AreSpotsOn}
+use Rattle.cargo_plans.specs.plan_steps.Plans.{PlanText}
 use Rattle.feats_tree.specs.packages.Titles.{titles_with}
 use Rattle.feats_tree.specs.packages.Trees.{AreTurned, IsTreeText}
 use Rattle.plan_whys.specs.Steps.{SpotText}

@@ -11,10 +11,10 @@ use Rattle.feature_labels.specs.Names.{label_cmp}
 use Rattle.feature_labels.specs.Orders.{label_eq, label_eq_equiv}
 use Rattle.feature_labels.specs.contracts.feature_label.FeatureLabelOrd.TheImpl as order
 use Rattle.feature_labels.proofs.Derived.{label_cmp-derived}
-use Rattle.plan_links.specs.Links.{indexes_of}
-use Rattle.plan_links.specs.SpotLinks.{is_command}
+use Rattle.plan_whys.specs.links.Links.{indexes_of}
+use Rattle.plan_whys.specs.links.SpotLinks.{is_command}
 use Rattle.plan_rows.specs.Steps.{is_host}
-use Rattle.plan_steps.specs.plan_starts.Lists.{joined_from}
+use Rattle.cargo_plans.specs.plan_starts.Lists.{joined_from}
 use Rattle.plan_whys.specs.Steps.{SpotText}
 use Rattle.plan_whys.specs.StepViews.{spot_text}
 use Rattle.plan_whys.specs.declared.steps.Spot.{Spot}

@@ -1,5 +1,13 @@
+pub mod BranchLemmas
 pub mod FeaturesShown
 pub mod KeyLemmas
+pub mod LevelLemmas
+pub mod MarkLemmas
+pub mod NodeLemmas
 pub mod PackagesShown
+pub mod PairLemmas
+pub mod ReachLemmas
 pub mod RootLemmas
+pub mod Tokens
+pub mod WalkLemmas
 pub mod Zips

@@ -5,13 +5,13 @@ use Rattle.std.specs.Global.{Vec}
 use Rattle.std.proofs.lemmas.Result.{IfOk-weaker}
 use Rattle.cargo_workspaces.specs.Workspaces.{PackageText, Text}
 use Rattle.feats_words.specs.declared.command_arguments.Format.{Format}
-use Rattle.link_trees.specs.Branches.{AreBranches}
-use Rattle.link_trees.specs.Titles.{TitleText}
-use Rattle.link_trees.specs.declared.trees.Branch.{Branch}
-use Rattle.plan_dots.specs.Dots.{NodeText, dot_text}
-use Rattle.plan_links.specs.UnitLinks.{AreUnitLinks, root_units}
-use Rattle.plan_steps.specs.Plans.{PlanText}
-use Rattle.plan_steps.specs.plan_units.Units.{UnitText}
+use Rattle.feats_tree.specs.trees.Branches.{AreBranches}
+use Rattle.feats_tree.specs.trees.Titles.{TitleText}
+use Rattle.feats_tree.specs.declared.trees.trees.Branch.{Branch}
+use Rattle.feats_tree.specs.dots.Dots.{NodeText, dot_text}
+use Rattle.plan_whys.specs.links.UnitLinks.{AreUnitLinks, root_units}
+use Rattle.cargo_plans.specs.plan_steps.Plans.{PlanText}
+use Rattle.cargo_plans.specs.plan_units.Units.{UnitText}
 use Rattle.feats_tree.specs.packages.Dots.{IsPackageDot, clusters, dot_of, nodes_with}
 use Rattle.feats_tree.specs.packages.Titles.{unit_title, unit_titles}
 use Rattle.feats_tree.specs.packages.Trees.{AreTurned, IsInvertedTree, IsPackageTree, IsTreeText, branches_text, units_of}

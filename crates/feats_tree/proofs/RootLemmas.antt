@@ -1,8 +1,8 @@
 -- Lists of numbers by two tests that agree.
 use Rattle.std.proofs.Common.{◌≡◌, ℕ, ◌+◌, ◌<◌, List, [], ◌∷◌, ◌++◌, Bool, ap, ap₂, arith, if◌then◌else◌, length, refl}
 use Rattle.std.specs.Prelude.{not, ◌&&◌}
-use Rattle.plan_links.specs.SpotLinks.{is_command}
-use Rattle.plan_steps.specs.plan_starts.Lists.{joined_from}
+use Rattle.plan_whys.specs.links.SpotLinks.{is_command}
+use Rattle.cargo_plans.specs.plan_starts.Lists.{joined_from}
 use Rattle.plan_whys.specs.Steps.{SpotText}
 use Rattle.feats_tree.specs.features.Roots.{numbers_in}
 

@@ -1,2 +1,4 @@
 pub mod packages
 pub mod features
+pub mod dots
+pub mod trees

@@ -3,9 +3,9 @@ use Rattle.std.specs.Prelude.{ℕ, List, [], ◌∷◌, Bool, true, Option, None
 use Rattle.std.specs.Str.{bytes_eq}
 use Rattle.std.specs.Option.{option_map_or}
 use Rattle.clap.specs.Words.{Text}
-use Rattle.manifest_resolvers.specs.declared.resolver.Resolver.{Resolver}
-use Rattle.manifest_resolvers.specs.declared.resolver.Resolver.TheVariants.{V2}
-use Rattle.manifest_resolvers.specs.Resolvers.{resolver_named}
+use Rattle.cargo_manifests.specs.declared.resolvers.resolver.Resolver.{Resolver}
+use Rattle.cargo_manifests.specs.declared.resolvers.resolver.Resolver.TheVariants.{V2}
+use Rattle.cargo_manifests.specs.resolvers.Resolvers.{resolver_named}
 use Rattle.feats_words.specs.Depths.{depth}
 use Rattle.feats_words.specs.Edges.{edges}
 use Rattle.feats_words.specs.FeatureWords.{words_in}

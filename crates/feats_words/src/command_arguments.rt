@@ -11,7 +11,7 @@ use crate::fault::WordsFault;
 use crate::platform_words::{PlatformWord, platform_word};
 use crate::request::{Question, Request};
 use crate::splitting::feature_words;
-use manifest_resolvers::Resolver;
+use cargo_manifests::resolvers::Resolver;
 use std::alloc::Global;
 
 /// Where the version of the resolver comes from.

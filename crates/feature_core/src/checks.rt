@@ -12,8 +12,8 @@ ghost use Rattle.feature_core.specs.Offers.{content_of};
 use crate::data::FeatureGraphData;
 use crate::directed_edges::Packed;
 use crate::error::Error;
-use feature_edges::DependencyDirection;
 use digraphs::IxBitSet;
+use feature_edges::DependencyDirection;
 use std::alloc::Global;
 use walk_engine::{Half, Step};
 

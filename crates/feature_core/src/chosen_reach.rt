@@ -6,8 +6,8 @@ ghost use Rattle.feature_core.specs.Built.{built_edges};
 ghost use Rattle.feature_edges.specs.Choices.{chosen_pairs};
 ghost use Rattle.feature_core.specs.inner.ChosenEdges.{is_chosen_at};
 
-use feature_edges::{DependencyDirection, EdgeChoice, EdgeList};
 use digraphs::{Digraph, IxBitSet};
+use feature_edges::{DependencyDirection, EdgeChoice, EdgeList};
 use guppy_support::{EdgeFilter, reach};
 use std::alloc::{AllocError, Global};
 

@@ -26,15 +26,15 @@ use crate::equality::{same_edges, same_gates, same_numbers, same_pairs, same_war
 use crate::error::Error;
 use crate::gates::release_table;
 use digraph_orders::Order;
+use digraphs::{Digraph, IxBitSet};
 use feature_edges::table::{EdgeTable, edge_table};
 use feature_edges::{
     DependencyDirection, EdgeChoice, EdgeList, FeatureEdge, FeatureGraphWarning, FeatureId,
     FeatureLabel, NodeTable, Numbers, PackageGraph, PackageMetadata, first_absent, label_at,
     named_links, node_table, numbers_in,
 };
-use digraphs::{Digraph, IxBitSet};
-use indexmap::IndexMap;
 use guppy_support::cyclic_components;
+use indexmap::IndexMap;
 use std::alloc::{AllocError, Global};
 use std::marker::Model;
 

@@ -9,9 +9,9 @@ ghost use Rattle.feature_edges.specs.Edges.{AreBuilt};
 ghost use Rattle.feature_edges.specs.Nodes.{node_packages};
 
 use crate::chosen_reach::reach_chosen;
+use digraphs::IxBitSet;
 use feature_edges::table::EdgeTable;
 use feature_edges::{DependencyDirection, EdgeChoice, Numbers, PackageMetadata, default_at};
-use digraphs::IxBitSet;
 use std::alloc::{AllocError, Global};
 
 /// Returns the default feature of a package: its feature named `default`, or its base if it has none. `nodes` has the feature

@@ -8,11 +8,11 @@ ghost use Rattle.feature_edges.specs.guppy_packages.Platform.{spec_text, status_
 use crate::data::FeatureGraphData;
 use crate::error::Error;
 use crate::laws::warning_equality;
+use digraphs::{Digraph, Edge};
 use feature_edges::{
     ConditionalLinkImpl, EdgeList, EnabledLink, FeatureEdge, FeatureGraphWarning, PackageGraph,
     PlatformStatus, Spec, WeakSlashImpl,
 };
-use digraphs::{Digraph, Edge};
 use indexmap::IndexMap;
 use std::alloc::Global;
 

@@ -12,8 +12,8 @@ ghost use Rattle.feature_core.specs.Ways.{content};
 use crate::data::FeatureGraphData;
 use crate::directed_edges::Packed;
 use crate::error::Error;
-use feature_edges::{DependencyDirection, EdgeChoice};
 use digraphs::IxBitSet;
+use feature_edges::{DependencyDirection, EdgeChoice};
 use std::alloc::Global;
 use walk_engine::{Offerer, Walk, walk_over};
 

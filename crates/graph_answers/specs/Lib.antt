@@ -1,2 +1,4 @@
 pub mod requests
 pub mod answers
+pub mod binary
+pub mod records

@@ -2,4 +2,6 @@
 #![tactic(auto)]
 
 pub mod answers;
+pub mod binary;
+pub mod records;
 pub mod requests;

@@ -23,9 +23,9 @@ use Rattle.cargo_plans.specs.plan_starts.PackageVisits.{PairVisit}
 use Rattle.cargo_plans.specs.plan_starts.Starts.{is_among, start_flags, start_places, starts_of, started, starts_on_host, times}
 use Rattle.cargo_plans.specs.plan_starts.Targets.{TargetRules, builds}
 use Rattle.cargo_plans.specs.plan_units.Units.{UnitText, features_on, target_units, units_at, units_of}
-use Rattle.cargo_plans.specs.plan_units.declared.unit.Place.{Place}
-use Rattle.cargo_plans.specs.plan_units.declared.unit.Place.TheVariants as spot
-use Rattle.step_visits.specs.Visits.{Visit, reaches}
+use Rattle.cargo_plans.specs.declared.plan_units.unit.Place.{Place}
+use Rattle.cargo_plans.specs.declared.plan_units.unit.Place.TheVariants as spot
+use Rattle.plan_starts.specs.step_visits.Visits.{Visit, reaches}
 use Rattle.laws.specs.plans.Laws.{FollowsDeclarations}
 use Rattle.laws.proofs.EntryLinks.{AreWithin}
 use Rattle.laws.proofs.Members.{both_true, either_true, from_filter_map, member_any, one_if}

@@ -23,7 +23,7 @@ use Rattle.feature_core.proofs.LabelLemmas.{position_there}
 use Rattle.feature_core.proofs.OfferLemmas.{way_edge}
 use Rattle.feature_core.proofs.PushLemmas.{into_map}
 use Rattle.laws.proofs.BuildExists.{built_exists}
-use Rattle.step_visits.specs.Visits.{IsReached, IsVisit, Visit, is_node, is_place, is_start, node_at, reaches}
+use Rattle.plan_starts.specs.step_visits.Visits.{IsReached, IsVisit, Visit, is_node, is_place, is_start, node_at, reaches}
 use Rattle.laws.proofs.Members.{both_true, member_any}
 
 -- a test that isn't refuted passes

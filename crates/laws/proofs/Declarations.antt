@@ -10,7 +10,7 @@ use Rattle.plan_rows.specs.Tables.{flag_at, rows_of}
 use Rattle.cargo_plans.specs.plan_starts.PackageVisits.{PairVisit}
 use Rattle.cargo_plans.specs.plan_starts.Starts.{Starts, dev_flags, start_places, starts_of}
 use Rattle.cargo_plans.specs.plan_starts.Targets.{TargetRules}
-use Rattle.step_visits.specs.Visits.{IsVisitOf, Visit, reaches}
+use Rattle.plan_starts.specs.step_visits.Visits.{IsVisitOf, Visit, reaches}
 use Rattle.cargo_plans.specs.plan_steps.Plans.{IsBuiltFrom, starts_by, turned_on}
 use Rattle.laws.specs.plans.Laws.{FollowsDeclarations, PlansFollowDeclarations}
 use Rattle.laws.proofs.Closed.{visit_in}

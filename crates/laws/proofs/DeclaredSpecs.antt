@@ -7,8 +7,8 @@ use Rattle.std.specs.Str.{bytes_eq}
 use Rattle.std.proofs.lemmas.List.Elements.{Contains-append_cases, Contains-push_cases}
 use Rattle.std.proofs.lemmas.List.Folds.{list_any-append}
 use Rattle.cargo_workspaces.specs.Workspaces.{DeclarationText, PackageText, Text}
-use Rattle.plan_platforms.specs.DeclaredSpecs.{DeclaredText, declared_by, declared_specs, specs_from, specs_of}
-use Rattle.plan_platforms.specs.HeldSpecs.{is_declared}
+use Rattle.plan_rows.specs.platforms.DeclaredSpecs.{DeclaredText, declared_by, declared_specs, specs_from, specs_of}
+use Rattle.plan_rows.specs.platforms.HeldSpecs.{is_declared}
 
 none_in : {X : Type 0} (x : X) → Contains [] x → ⊥
 none_in x h = omega (arith, h.1)

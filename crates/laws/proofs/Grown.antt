@@ -45,8 +45,8 @@ use Rattle.feature_core.proofs.PartLemmas.{list_any_back, list_any_there}
 use Rattle.feature_core.proofs.Places.{node_back, node_there}
 use Rattle.feature_core.proofs.PushLemmas.{from_map, into_map}
 use Rattle.laws.proofs.BuildExists.{built_exists}
-use Rattle.step_visits.specs.Visits.{IsReached, is_node, is_place, is_start, node_at, reaches}
-use Rattle.step_visits.proofs.Places.{node_found}
+use Rattle.plan_starts.specs.step_visits.Visits.{IsReached, is_node, is_place, is_start, node_at, reaches}
+use Rattle.plan_starts.proofs.Places.{node_found}
 use Rattle.laws.specs.plans.Growth.{AreAmongBy, GrownTablesReachMore, HasLink, HasMore, IsMoreOf}
 use Rattle.laws.proofs.Closed.{at_found, in_set, reached_in, stable}
 use Rattle.laws.proofs.Members.{any_member, both_true, member_any}

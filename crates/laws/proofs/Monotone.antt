@@ -11,7 +11,7 @@ use Rattle.feature_core.specs.Offers.{content_of}
 use Rattle.walk_engine.specs.declared.walks.Half.{Half}
 use Rattle.walk_engine.specs.Laws.{every}
 use Rattle.walk_engine.specs.Walks.{Content, Least}
-use Rattle.step_visits.specs.Visits.{IsReached, is_node, is_start, node_at, reaches}
+use Rattle.plan_starts.specs.step_visits.Visits.{IsReached, is_node, is_start, node_at, reaches}
 use Rattle.laws.specs.plans.Laws.{AreAmong, MoreStartsReachMore, MoreStartsVisitMore}
 use Rattle.laws.proofs.Members.{any_member, member_any}
 

@@ -14,7 +14,7 @@ use Rattle.feature_core.proofs.AddsLemmas.{Contains-none}
 use Rattle.feature_core.proofs.Places.{get_cases, get_left, get_right}
 use Rattle.plan_rows.specs.Commands.{is_started}
 use Rattle.plan_rows.specs.Steps as steps
-use Rattle.plan_rows.specs.Steps.{SettingsText}
+use Rattle.plan_rows.specs.Steps.{SettingsText, is_macro}
 use Rattle.plan_rows.specs.Tables.{Entry, flag_at}
 use Rattle.plan_rows.specs.declared.side.Side.{Side}
 use Rattle.plan_rows.specs.declared.side.Side.TheVariants.{Target}
@@ -22,7 +22,7 @@ use Rattle.plan_rows.proofs.EntryLemmas.{length-each_from}
 use Rattle.plan_rows.proofs.EntryRules.{number_is}
 use Rattle.cargo_plans.specs.plan_starts.PackageVisits.{PairVisit, is_kept, is_on}
 use Rattle.cargo_plans.specs.plan_starts.Starts.{dev_flags, is_among, start_flags, start_places, started, starts_of, starts_on_host, times}
-use Rattle.cargo_plans.specs.plan_starts.Targets.{TargetRules, builds, counts, counts_for, is_built, is_chosen, is_followed, is_macro, is_of, leads_on}
+use Rattle.cargo_plans.specs.plan_starts.Targets.{TargetRules, builds, counts, counts_for, is_built, is_chosen, is_followed, is_of, leads_on}
 use Rattle.laws.specs.plans.Growth.{CommandsGrow, with_commands}
 use Rattle.laws.specs.plans.Laws.{AreAmong}
 use Rattle.laws.proofs.BuiltStep.{all_place, entries_within}

@@ -15,9 +15,9 @@ use Rattle.cargo_plans.specs.plan_starts.PackageVisits.{PairVisit, is_on}
 use Rattle.cargo_plans.specs.plan_starts.Starts.{Starts, dev_flags, start_places, starts_of}
 use Rattle.cargo_plans.specs.plan_starts.Targets.{TargetRules}
 use Rattle.cargo_plans.specs.plan_units.Units.{UnitText, features_on, target_units, units_at, units_of}
-use Rattle.cargo_plans.specs.plan_units.declared.unit.Place.{Place}
-use Rattle.cargo_plans.specs.plan_units.declared.unit.Place.TheVariants as spot
-use Rattle.step_visits.specs.Visits.{IsVisitOf, Visit, reaches}
+use Rattle.cargo_plans.specs.declared.plan_units.unit.Place.{Place}
+use Rattle.cargo_plans.specs.declared.plan_units.unit.Place.TheVariants as spot
+use Rattle.plan_starts.specs.step_visits.Visits.{IsVisitOf, Visit, reaches}
 use Rattle.cargo_plans.specs.plan_steps.Plans.{starts_by, turned_on}
 use Rattle.laws.specs.plans.Growth.{CommandsGrow, MoreTurnsNothingOff, with_commands}
 use Rattle.laws.specs.plans.Laws.{AreAmong}

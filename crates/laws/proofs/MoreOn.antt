@@ -16,7 +16,7 @@ use Rattle.plan_rows.specs.declared.side.Side.TheVariants.{Target, Host}
 use Rattle.plan_rows.proofs.EntryLemmas.{length-each_from}
 use Rattle.plan_rows.proofs.EntryRules.{number_is}
 use Rattle.laws.specs.plans.Growth.{CommandsGrow}
-use Rattle.laws.specs.plans.Widening.{SettingsGrow, admits_any}
+use Rattle.laws.specs.plans.Widening.{SettingsGrow}
 use Rattle.laws.proofs.BuiltStep.{all_place}
 use Rattle.laws.proofs.EntryGrowth.{HasOneName, HaveMore, IsMoreEntry}
 use Rattle.laws.proofs.EntryLinks.{AreWithin}
@@ -158,7 +158,7 @@ module _ (w : WorkspaceText) (is : IsWorkspace w) where
   -- With larger settings, and more that is kept.
 
   module _ (s t : SettingsText) (grow : SettingsGrow w s t) (kept others : ℕ → Text → Bool) (kept_more : (p : ℕ) (name : Text) → kept p name ≡ true → others p name ≡ true) where
-    holds_more : (x : PackageText) (d : DeclarationText) → Contains w.packages x → Contains x.declarations d → (host : Bool) → (if host then steps.admits s.host d.platform else admits_any s.targets d.platform) ≡ true → (if host then steps.admits t.host d.platform else admits_any t.targets d.platform) ≡ true
+    holds_more : (x : PackageText) (d : DeclarationText) → Contains w.packages x → Contains x.declarations d → (host : Bool) → (if host then steps.admits s.host d.platform else steps.admits_any s.targets d.platform) ≡ true → (if host then steps.admits t.host d.platform else steps.admits_any t.targets d.platform) ≡ true
     holds_more x d of_w of_x true h = grow.host x of_w d of_x h
     holds_more x d of_w of_x false h = grow.targets x of_w d of_x h
 
@@ -168,15 +168,15 @@ module _ (w : WorkspaceText) (is : IsWorkspace w) where
     admitted_more : (x : PackageText) (d : DeclarationText) → Contains w.packages x → Contains x.declarations d → (p : ℕ) (side : Side) → steps.admitted s kept p side d ≡ true → steps.admitted t others p side d ≡ true
     admitted_more x d of_w of_x p side h =
         let dev = not (steps.is_development d.kind) in
-        let parts = both_true ((not d.optional || kept p d.name) && (dev || is_started s.commands p && (s.test || not s.split))) (not s.split || steps.holds_on s side d) h in
+        let parts = both_true ((not d.optional || kept p d.name) && (dev || is_started s.commands p && (s.test || not s.split))) (not s.split || steps.applies_on s.host s.targets side d) h in
         let pair = both_true (not d.optional || kept p d.name) (dev || is_started s.commands p && (s.test || not s.split)) parts.0 in
-        two_true ((not d.optional || others p d.name) && (dev || is_started t.commands p && (t.test || not t.split))) (not t.split || steps.holds_on t side d)
+        two_true ((not d.optional || others p d.name) && (dev || is_started t.commands p && (t.test || not t.split))) (not t.split || steps.applies_on t.host t.targets side d)
         (two_true (not d.optional || others p d.name) (dev || is_started t.commands p && (t.test || not t.split))
         (or_more (not d.optional) (kept p d.name) (others p d.name) (kept_more p d.name) pair.0)
         (or_more dev (is_started s.commands p && (s.test || not s.split)) (is_started t.commands p && (t.test || not t.split))
         (and_more (is_started s.commands p) (is_started t.commands p) (s.test || not s.split) (t.test || not t.split) (started_more w is s t.commands grow.commands p)
         (either_more s.test (not s.split) t.test (not t.split) grow.test unsplit)) pair.1))
-        (either_more (not s.split) (steps.holds_on s side d) (not t.split) (steps.holds_on t side d) unsplit (holds_more x d of_w of_x (steps.is_build d.kind || steps.is_host side)) parts.1)
+        (either_more (not s.split) (steps.applies_on s.host s.targets side d) (not t.split) (steps.applies_on t.host t.targets side d) unsplit (holds_more x d of_w of_x (steps.is_build d.kind || steps.is_host side)) parts.1)
 
     lead_more : (x : PackageText) (d : DeclarationText) → Contains w.packages x → Contains x.declarations d → (p : ℕ) (side : Side) (q n : ℕ) → steps.on_lead macros s kept side p d q ≡ Some n → steps.on_lead macros t others side p d q ≡ Some n
     lead_more x d of_w of_x p side q n h =

@@ -14,7 +14,7 @@ use Rattle.cargo_plans.specs.plan_starts.Lists.{joined_from}
 use Rattle.cargo_plans.specs.plan_starts.PackageVisits.{PairVisit, first_entry, is_kept, is_on, reaches_at}
 use Rattle.cargo_plans.specs.plan_starts.Targets.{has_macro}
 use Rattle.cargo_plans.specs.plan_units.Commands.{command_label, command_places, on_starts, resolved_starts}
-use Rattle.step_visits.specs.Visits.{IsVisitOf, Visit, reaches}
+use Rattle.plan_starts.specs.step_visits.Visits.{IsVisitOf, Visit, reaches}
 use Rattle.cargo_plans.specs.plan_steps.Plans.{IsOn, IsResolved}
 use Rattle.laws.specs.plans.Growth.{CommandsGrow}
 use Rattle.laws.specs.plans.Laws.{AreAmong}

@@ -18,8 +18,8 @@ use Rattle.plan_words.specs.Choices.{ChosenText}
 use Rattle.plan_words.specs.Refusals.{Refusal, refusal_of}
 use Rattle.cargo_plans.specs.plan_steps.PlanViews.{IsRefused}
 use Rattle.cargo_plans.specs.plan_steps.Plans.{IsPlan, PlanText, lacks, not_on, starts_by, without_tests}
-use Rattle.cargo_plans.specs.plan_steps.declared.fault.StepFault.{StepFault}
-use Rattle.cargo_plans.specs.plan_steps.declared.fault.StepFault.TheVariants as step
+use Rattle.cargo_plans.specs.declared.plan_steps.fault.StepFault.{StepFault}
+use Rattle.cargo_plans.specs.declared.plan_steps.fault.StepFault.TheVariants as step
 use Rattle.cargo_plans.specs.Plans.{AfterWords, IsPlanOf, WordsText, settings_by}
 use Rattle.cargo_plans.specs.Refusals.{IsRefusal}
 use Rattle.cargo_plans.specs.declared.fault.PlanFault.{PlanFault}

@@ -10,21 +10,21 @@ use Rattle.feature_labels.specs.Names.{LabelName}
 use Rattle.feature_labels.specs.Names.LabelName.{base, named, optional}
 use Rattle.cargo_workspaces.specs.Workspaces.{DeclarationText, PackageText, TargetText, Text, WorkspaceText, both_lead_to, is_macro_target}
 use Rattle.plan_rows.specs.Commands.{is_started}
-use Rattle.plan_rows.specs.Steps.{SettingsText, built_entries, is_development, is_host, lands, on_entries, resolved_entries, side_of}
+use Rattle.plan_rows.specs.Steps.{SettingsText, built_entries, is_development, is_host, is_macro, lands, on_entries, resolved_entries, side_of}
 use Rattle.plan_rows.specs.Tables.{each_from, flag_at, rows_of}
 use Rattle.plan_rows.specs.declared.side.Side.{Side}
 use Rattle.plan_rows.specs.declared.side.Side.TheVariants.{Target}
 use Rattle.cargo_plans.specs.plan_starts.Lists.{joined_from}
 use Rattle.cargo_plans.specs.plan_starts.PackageVisits.{PairVisit, first_entry, is_kept, reaches_at}
 use Rattle.cargo_plans.specs.plan_starts.Starts.{Starts, dev_flags, is_among, start_places, starts_of, starts_on_host}
-use Rattle.cargo_plans.specs.plan_starts.Targets.{counts, is_chosen, is_macro}
+use Rattle.cargo_plans.specs.plan_starts.Targets.{counts, is_chosen}
 use Rattle.cargo_plans.specs.plan_units.Commands.{on_starts, resolved_starts}
 use Rattle.cargo_plans.specs.plan_units.Units.{UnitText, target_units, units_at, units_of}
-use Rattle.cargo_plans.specs.plan_units.declared.unit.Place.{Place}
-use Rattle.cargo_plans.specs.plan_units.declared.unit.Place.TheVariants as spot
+use Rattle.cargo_plans.specs.declared.plan_units.unit.Place.{Place}
+use Rattle.cargo_plans.specs.declared.plan_units.unit.Place.TheVariants as spot
 use Rattle.plan_words.specs.Choices.{ChosenText}
 use Rattle.plan_words.specs.Refusals.{Refusal}
-use Rattle.step_visits.specs.Visits.{IsVisitOf, Visit, reaches}
+use Rattle.plan_starts.specs.step_visits.Visits.{IsVisitOf, Visit, reaches}
 use Rattle.cargo_plans.specs.plan_steps.Plans.{IsBuiltFrom, IsOn, IsPlan, IsResolved, starts_by, turned_on}
 use Rattle.cargo_plans.specs.Plans.{settings_by}
 use Rattle.laws.specs.plans.Laws.{OnePlan, OnePlanOfWords}

@@ -4,8 +4,8 @@ use Rattle.std.specs.List.{filter}
 use Rattle.cargo_workspaces.specs.Workspaces.{Text, PackageText}
 use Rattle.cargo_plans.specs.plan_starts.Lists.{joined_from}
 use Rattle.cargo_plans.specs.plan_units.Units.{UnitText}
-use Rattle.cargo_plans.specs.plan_units.declared.unit.Place.{Place}
-use Rattle.cargo_plans.specs.plan_units.declared.unit.Place.TheVariants as place
+use Rattle.cargo_plans.specs.declared.plan_units.unit.Place.{Place}
+use Rattle.cargo_plans.specs.declared.plan_units.unit.Place.TheVariants as place
 use Rattle.plan_duplicates.specs.Built.{differ}
 use Rattle.plan_duplicates.specs.MemberPlans.{MemberPlanText, OutcomeText, built, not_planned}
 

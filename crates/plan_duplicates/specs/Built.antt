@@ -5,7 +5,7 @@ use Rattle.std.specs.List.{filter, list_any}
 use Rattle.std.specs.Str.{bytes_eq}
 use Rattle.cargo_workspaces.specs.Workspaces.{Text}
 use Rattle.cargo_plans.specs.plan_units.Units.{UnitText}
-use Rattle.cargo_plans.specs.plan_units.declared.unit.Place.{Place}
+use Rattle.cargo_plans.specs.declared.plan_units.unit.Place.{Place}
 
 -- A place, and the features that a package has there.
 pub record PlacedText : Type 0 where

@@ -5,7 +5,7 @@ use Rattle.cargo_workspaces.specs.Workspaces.{Text, PackageText, WorkspaceText}
 use Rattle.cargo_plans.specs.Plans.{WordsText}
 use Rattle.plan_duplicates.specs.Alone.{AloneText, MemberUnitText, alone_of, same_place}
 use Rattle.plan_duplicates.specs.MemberPlans.{ArePlansAlone, MemberPlanText, OutcomeText, built, not_planned}
-use Rattle.cargo_plans.specs.plan_units.declared.unit.Place.{Place}
+use Rattle.cargo_plans.specs.declared.plan_units.unit.Place.{Place}
 use Rattle.plan_duplicates.specs.Joined.{joined_workspace}
 
 -- A package and a place for which members don't agree.

@@ -6,9 +6,9 @@ use Rattle.cargo_workspaces.specs.Workspaces.{Text, DeclarationText, PackageText
 use Rattle.cargo_workspaces.specs.declared.package.Kind.{Kind}
 use Rattle.cargo_workspaces.specs.declared.package.Kind.TheVariants as kind
 use Rattle.plan_duplicates.specs.Alone.{AloneText}
-use Rattle.cargo_plans.specs.plan_units.declared.unit.Place.{Place}
-use Rattle.cargo_plans.specs.plan_units.declared.unit.Place.TheVariants as place
-use Rattle.workspace_edits.specs.Edits.{with_declarations}
+use Rattle.cargo_plans.specs.declared.plan_units.unit.Place.{Place}
+use Rattle.cargo_plans.specs.declared.plan_units.unit.Place.TheVariants as place
+use Rattle.cargo_manifests.specs.Edits.{with_declarations}
 use Rattle.plan_duplicates.specs.Features.{is_from_default_registry, joined_features}
 
 -- The kind of a dependency for a place.

@@ -6,7 +6,7 @@ use Rattle.cargo_plans.specs.plan_steps.Plans.{PlanText}
 use Rattle.cargo_plans.specs.Plans.{AfterWords, IsPlanOf, WordsText}
 use Rattle.cargo_plans.specs.Refusals.{IsRefusal, is_memory}
 use Rattle.cargo_plans.specs.declared.fault.PlanFault.{PlanFault}
-use Rattle.plan_messages.specs.Messages.{plan_message}
+use Rattle.feats_files.specs.plan_messages.Messages.{plan_message}
 use Rattle.cargo_plans.specs.plan_units.Units.{UnitText}
 use Rattle.plan_words.specs.Selections.{SelectionText, named}
 

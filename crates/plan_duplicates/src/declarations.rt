@@ -5,9 +5,9 @@ ghost use Rattle.plan_duplicates.specs.Joined as spec;
 ghost use Rattle.plan_duplicates.specs.inner.JoinViews.{join_text};
 
 use crate::joins::Join;
+use cargo_manifests::copies_of_declarations;
 use cargo_workspaces::Declaration;
 use std::alloc::{AllocError, Global};
-use workspace_edits::copies_of_declarations;
 
 /// Returns the name by which the first of `declarations` that leads to package `package` calls it; without one, `name`.
 fn name_among<'v>(package: usize, name: &'v str, declarations: &[Declaration<'v>]) -> &'v str

@@ -9,9 +9,9 @@ ghost use Rattle.plan_duplicates.specs.inner.JoinViews.{join_text};
 use crate::alone::Alone;
 use crate::declarations::joined_declarations;
 use crate::joins::{Join, joins_of};
+use cargo_manifests::package_with;
 use cargo_workspaces::{Package, Workspace};
 use std::alloc::{AllocError, Global};
-use workspace_edits::package_with;
 
 /// Returns a copy of `package`, which has number `member`, with the declarations of those of `joins` that are for it.
 fn joined_package<'v>(

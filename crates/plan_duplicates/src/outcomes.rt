@@ -2,7 +2,7 @@
 ghost use Rattle.std.specs.Prelude.{◌≡◌, IfOk, string_bytes};
 ghost use Rattle.cargo_workspaces.specs.WorkspaceView.{workspace_text};
 ghost use Rattle.cargo_plans.specs.WordsView.{words_text};
-ghost use Rattle.plan_messages.specs.Messages.{plan_message};
+ghost use Rattle.feats_files.specs.plan_messages.Messages.{plan_message};
 ghost use Rattle.plan_duplicates.specs.MemberPlans.{IsOutcome};
 ghost use Rattle.plan_duplicates.specs.Views.{outcome_text};
 
@@ -10,7 +10,7 @@ use crate::copies::copies_of;
 use cargo_plans::{PlanFault, PlanWords, StepFault, Unit, plan};
 use cargo_workspaces::Workspace;
 use feats_files::Fault;
-use plan_messages::plan_refused;
+use feats_files::plan_messages::plan_refused;
 use plan_rows::Platform;
 use std::alloc::{AllocError, Global};
 

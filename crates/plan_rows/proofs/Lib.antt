@@ -1,6 +1,8 @@
 pub mod EntryLemmas
 pub mod EntryRules
+pub mod EveryLemmas
 pub mod GateLemmas
+pub mod HoldingLemmas
 pub mod LinkFaults
 pub mod Lists
 pub mod RowFaults

@@ -6,3 +6,4 @@ pub mod StepRowsView
 pub mod Steps
 pub mod Tables
 pub mod inner
+pub mod platforms

@@ -1,7 +1,7 @@
 -- The tables of the three steps of a plan: which optional dependencies version resolving turns on (`resolved`), which features are
 -- on (`on`), and what is built (`built`). `count` is the number of packages. An entry's number is that of its package, plus the
 -- number at which its place begins.
-use Rattle.std.specs.Prelude.{ℕ, ◌+◌, List, [], ◌∷◌, ◌++◌, map, Bool, true, false, not, ◌&&◌, ◌||◌, Option, Some, None, codes, length, option_map, option_and_then, if◌then◌else◌, flat_map}
+use Rattle.std.specs.Prelude.{ℕ, ◌+◌, List, [], ◌∷◌, ◌++◌, map, Bool, true, false, not, ◌&&◌, ◌||◌, Option, Some, None, codes, length, option_map, option_and_then, slice_get, if◌then◌else◌, flat_map}
 use Rattle.std.specs.List.{filter_map, list_any}
 use Rattle.std.specs.Option.{option_map_or}
 use Rattle.guppy_packages.specs.Items.{Item, feature_item, optional_item, slash_item, item_of}
@@ -35,6 +35,14 @@ is_development kind.Development = true
 -- Whether a declaration with this platform applies where these specs hold.
 abbrev pub admits : (Text → Bool) → Option Text → Bool
 admits holds platform = option_map_or holds platform true
+
+-- Whether it applies where one of these lists of specs holds.
+abbrev pub admits_any : List (Text → Bool) → Option Text → Bool
+admits_any targets platform = list_any (λ holds. admits holds platform) targets
+
+-- Whether package `p` is a procedural macro for those that depend on it.
+abbrev pub is_macro : List PackageText → ℕ → Bool
+is_macro packages p = option_map_or is_proc_macro (slice_get packages p) false
 
 -- Whether each package is a procedural macro.
 abbrev pub macros_of : List PackageText → List Bool
@@ -120,9 +128,9 @@ abbrev pub is_host : Side → Bool
 is_host Target = false
 is_host Host = true
 
--- Whether the declaration's platform is one of those that count on the side.
-abbrev pub holds_on : SettingsText → Side → DeclarationText → Bool
-holds_on s side d = if is_build d.kind || is_host side then admits s.host d.platform else list_any (λ holds. admits holds d.platform) s.targets
+-- Whether the declaration applies for a package on the side: one for builds on the host, another on the side's platforms.
+abbrev pub applies_on : (Text → Bool) → List (Text → Bool) → Side → DeclarationText → Bool
+applies_on host targets side d = if is_build d.kind || is_host side then admits host d.platform else admits_any targets d.platform
 
 -- Whether the declaration of package `p` counts on the side. `kept p name` is whether version resolving turned on the optional
 -- dependency `name` of `p`.
@@ -130,7 +138,7 @@ abbrev pub admitted : SettingsText → (ℕ → Text → Bool) → ℕ → Side 
 admitted s kept p side d =
     (not d.optional || kept p d.name)
     && (not (is_development d.kind) || is_started s.commands p && (s.test || not s.split))
-    && (not s.split || holds_on s side d)
+    && (not s.split || applies_on s.host s.targets side d)
 
 abbrev pub on_lead : List Bool → SettingsText → (ℕ → Text → Bool) → Side → ℕ → DeclarationText → ℕ → Option ℕ
 on_lead macros s kept side p d q =

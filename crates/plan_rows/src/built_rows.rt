@@ -11,8 +11,9 @@ ghost use Rattle.plan_rows.specs.Steps as steps;
 ghost use Rattle.plan_rows.specs.Tables.{entry_rows, flag_at, rows_from, rows_of};
 
 use crate::ids::Ids;
-use crate::on_rows::{admits, flag_of, macros_of};
+use crate::on_rows::macros_of;
 use crate::pushing::{push_dependencies, push_package};
+use crate::rules::{admits, flag_of, host_side};
 use crate::settings::{Platform, Settings, TurnedOn};
 use crate::side::Side;
 use crate::step_rows::StepRows;
@@ -165,13 +166,6 @@ fn push_place<'n, P: Platform, T: TurnedOn>(
         push_entry(alloc, rows, ids, rules, place, ix, package)?;
     }
     Ok(())
-}
-
-/// Returns the side whose features the host place has.
-fn host_side(split: bool) -> Side
-    ensures { result ≡ steps.side_of split true }
-{
-    if split { Side::Host } else { Side::Target }
 }
 
 /// Appends the rows of the entries of all packages on each of `targets`, the first of which begins at `base`.

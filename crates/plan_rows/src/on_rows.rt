@@ -1,62 +1,26 @@
 //! The rows of step `on`: which features are on.
-ghost use Rattle.std.specs.Prelude.{◌≡◌, ◌+◌, ◌*◌, ◌<◌, ◌≤◌, ◌^◌, ◌++◌, ◌∷◌, [], IfOk, OnOk, IsTrue, length, map, option_map};
-ghost use Rattle.std.specs.List.{list_all, list_any, AllByRecursion};
+ghost use Rattle.std.specs.Prelude.{◌≡◌, ◌+◌, ◌*◌, ◌<◌, ◌≤◌, ◌^◌, ◌++◌, ◌∷◌, [], IfOk, OnOk, IsTrue, length, map};
+ghost use Rattle.std.specs.List.{list_all, AllByRecursion};
 ghost use Rattle.guppy_packages.specs.Rows.{row_text};
 ghost use Rattle.cargo_workspaces.specs.Views.{declaration_text, package_text};
 ghost use Rattle.cargo_workspaces.specs.WorkspaceView.{workspace_text};
 ghost use Rattle.cargo_workspaces.specs.Workspaces.{IsPackage, is_within};
-ghost use Rattle.plan_rows.specs.Commands.{are_commands, command_of, command_texts, is_started};
+ghost use Rattle.plan_rows.specs.Commands.{are_commands, command_of, command_texts};
 ghost use Rattle.plan_rows.specs.SettingsView.{settings_text};
 ghost use Rattle.plan_rows.specs.StepRowsView.{row_texts};
 ghost use Rattle.plan_rows.specs.Steps as steps;
 ghost use Rattle.plan_rows.specs.declared.side.Side.TheVariants.{Target};
-ghost use Rattle.plan_rows.specs.Tables.{each_from, entry_rows, feature_row, flag_at, rows_from, rows_of};
+ghost use Rattle.plan_rows.specs.Tables.{each_from, entry_rows, feature_row, rows_from, rows_of};
 
 use crate::ids::Ids;
 use crate::pushing::{push_command, push_dependencies, push_features, push_package};
+use crate::rules::{applies_on, flag_of, has_command, lands};
 use crate::settings::{Kept, Platform, Settings};
 use crate::side::Side;
 use crate::step_rows::StepRows;
 use cargo_workspaces::{Declaration, Feature, Kind, Package, Workspace};
 use guppy_packages::Row;
 use std::alloc::{AllocError, Global};
-
-/// Returns whether a declaration with this platform applies on `holder`.
-pub(crate) fn admits<P: Platform>(holder: &P, platform: Option<&str>) -> bool
-    ensures { result ≡ steps.admits (P.holds holder.now) (option_map (λ t. t.now) platform.entry) }
-{
-    match platform {
-        None => true,
-        Some(spec) => holder.holds(spec),
-    }
-}
-
-/// Returns whether a declaration with this platform applies on one of `targets`.
-fn admits_any<P: Platform>(targets: &[P], platform: Option<&str>) -> bool
-    ensures { result ≡ list_any (λ holds. steps.admits holds (option_map (λ t. t.now) platform.entry)) (map P.holds targets.now) }
-{
-    for target in targets {
-        if admits(target, platform) {
-            return true;
-        }
-    }
-    false
-}
-
-/// Returns whether the platform of `declaration` is one of those that count on `side`.
-fn holds_on<P: Platform>(
-    settings: &Settings<'_, '_, P>,
-    side: Side,
-    declaration: &Declaration<'_>,
-) -> bool
-    ensures { result ≡ steps.holds_on (settings_text P.holds settings.now) side (declaration_text declaration.now) }
-{
-    if declaration.kind == Kind::Build || side.is_host() {
-        admits(settings.host, declaration.platform)
-    } else {
-        admits_any(settings.targets, declaration.platform)
-    }
-}
 
 /// The rules by which declarations count in step `on`.
 #[derive(Drop)]
@@ -65,23 +29,6 @@ struct Rules<'r, 'n, 'c, P, K> {
     kept: &'r K,
     /// A flag for each package: true if it is a procedural macro.
     macros: &'r [bool],
-}
-
-/// Returns the flag at `ix`, false past the end.
-pub(crate) fn flag_of(flags: &[bool], ix: usize) -> bool
-    ensures { result ≡ flag_at flags.now ix }
-{
-    match flags.get(ix) {
-        Some(flag) => *flag,
-        None => false,
-    }
-}
-
-/// Returns whether package `ix` has a command feature.
-pub(crate) fn has_command(commands: &[Option<Feature<'_>>], ix: usize) -> bool
-    ensures { result ≡ is_started (command_texts commands.now) ix }
-{
-    matches!(commands.get(ix), Some(Some(_)))
 }
 
 /// Returns whether `declaration` of package `ix` counts on `side`.
@@ -97,18 +44,7 @@ fn admitted<P: Platform, K: Kept>(
     (!declaration.optional || rules.kept.is_kept(ix, declaration.name))
         && (declaration.kind != Kind::Development
             || has_command(settings.commands, ix) && (settings.test || !settings.split))
-        && (!settings.split || holds_on(settings, side, declaration))
-}
-
-/// Returns the side on which `declaration` leads to a package: `is_macro` is whether that is a procedural macro.
-fn lands(split: bool, declaration: &Declaration<'_>, is_macro: bool, side: Side) -> Side
-    ensures { result ≡ steps.lands split (declaration_text declaration.now) is_macro side }
-{
-    if split && (declaration.kind == Kind::Build || is_macro) {
-        Side::Host
-    } else {
-        side
-    }
+        && (!settings.split || applies_on(settings.host, settings.targets, side, declaration))
 }
 
 /// Returns the entry that `declaration` of package `ix` leads to, if it counts on `side` and leads to a package.

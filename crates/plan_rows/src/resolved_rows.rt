@@ -15,8 +15,8 @@ ghost use Rattle.plan_rows.specs.inner.Starts.{start};
 
 use crate::gated_features::{GatedFeature, GatedFeatures, Items};
 use crate::ids::Ids;
-use crate::on_rows::has_command;
 use crate::pushing::{push_lead, push_package};
+use crate::rules::has_command;
 use crate::settings::{Platform, Settings};
 use crate::step_rows::StepRows;
 use cargo_workspaces::{Declaration, Feature, Kind, Package, Workspace};

@@ -11,7 +11,8 @@ impl Side {
     ghost use Rattle.std.specs.Prelude.{◌≡◌};
     ghost use Rattle.plan_rows.specs.Steps.{is_host, side_base};
 
-    pub(crate) fn is_host(self) -> bool
+    /// Returns whether this is the side of the host.
+    pub fn is_host(self) -> bool
         ensures { result ≡ is_host self }
     {
         matches!(self, Side::Host)

@@ -2,8 +2,8 @@
 use Rattle.std.proofs.Common.{◌≡◌, ◌∙◌, ℕ, ◌+◌, ◌<◌, Bool, true, ◌&&◌, ap, sym}
 use Rattle.std.specs.Prelude.{nat_lt}
 use Rattle.std.proofs.lemmas.Bool.{lt-ltb}
-use Rattle.step_visits.specs.feature_labels.Names.{LabelName}
-use Rattle.step_visits.specs.Visits.{reaches}
+use Rattle.feature_labels.specs.Names.{LabelName}
+use Rattle.plan_starts.specs.step_visits.Visits.{reaches}
 use Rattle.plan_starts.specs.PackageVisits.{PairVisit, first_entry, reaches_at}
 
 below : (p n : ℕ) → p < n → nat_lt p n ≡ true

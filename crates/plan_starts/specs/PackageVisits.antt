@@ -1,11 +1,11 @@
 -- Visits of a step in which each package has two entries.
 use Rattle.std.specs.Prelude.{ℕ, ◌+◌, Bool, true, false, nat_lt, ◌&&◌, ◌||◌, if◌then◌else◌}
-use Rattle.step_visits.specs.feature_labels.Names.{LabelName}
-use Rattle.step_visits.specs.feature_labels.Names.LabelName.{optional}
+use Rattle.feature_labels.specs.Names.{LabelName}
+use Rattle.feature_labels.specs.Names.LabelName.{optional}
 use Rattle.cargo_workspaces.specs.Workspaces.{Text}
 use Rattle.plan_rows.specs.Steps.{is_host}
 use Rattle.plan_rows.specs.declared.side.Side.{Side}
-use Rattle.step_visits.specs.Visits.{Visit, reaches}
+use Rattle.plan_starts.specs.step_visits.Visits.{Visit, reaches}
 
 -- A visit of `count` packages: package `p` is entry `p`, and entry `count + p`.
 pub record PairVisit : Type 0 where

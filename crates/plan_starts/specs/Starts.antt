@@ -2,8 +2,8 @@
 use Rattle.std.specs.Prelude.{ℕ, ◌+◌, zero, suc, List, [], ◌∷◌, ◌++◌, map, Bool, true, false, not, ◌&&◌, ◌||◌, ◌==◌, if◌then◌else◌, Option, Some, None, slice_get, option_map}
 use Rattle.std.specs.List.{list_any}
 use Rattle.std.specs.Option.{option_map_or}
-use Rattle.step_visits.specs.feature_labels.Names.{LabelName}
-use Rattle.step_visits.specs.feature_labels.Names.LabelName.{base}
+use Rattle.feature_labels.specs.Names.{LabelName}
+use Rattle.feature_labels.specs.Names.LabelName.{base}
 use Rattle.cargo_workspaces.specs.Workspaces.{PackageText, WorkspaceText, is_proc_macro}
 use Rattle.plan_rows.specs.Steps.{is_development, side_of}
 use Rattle.plan_rows.specs.Tables.{each_from, flag_at}

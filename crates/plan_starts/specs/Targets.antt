@@ -3,11 +3,11 @@ use Rattle.std.specs.Prelude.{ℕ, List, Option, Bool, true, false, not, ◌&&�
 use Rattle.std.specs.List.{list_all, list_any}
 use Rattle.std.specs.Option.{is_some, option_map_or}
 use Rattle.std.specs.Str.{bytes_eq}
-use Rattle.step_visits.specs.guppy_packages.Items.{slash_item, item_of}
-use Rattle.step_visits.specs.feature_labels.Names.LabelName.{named}
-use Rattle.cargo_workspaces.specs.Workspaces.{Text, DeclarationText, TargetText, PackageText, both_lead_to, has_kind, has_macro_target, is_library, is_macro_target, is_proc_macro}
+use Rattle.guppy_packages.specs.Items.{slash_item, item_of}
+use Rattle.feature_labels.specs.Names.LabelName.{named}
+use Rattle.cargo_workspaces.specs.Workspaces.{Text, DeclarationText, TargetText, PackageText, both_lead_to, has_kind, has_macro_target, is_library, is_macro_target}
 use Rattle.plan_rows.specs.Commands.{is_started}
-use Rattle.plan_rows.specs.Steps.{SettingsText, admits, is_development, lands}
+use Rattle.plan_rows.specs.Steps.{SettingsText, admits, admits_any, is_development, is_macro, lands}
 use Rattle.plan_rows.specs.declared.side.Side.TheVariants.{Target}
 use Rattle.plan_starts.specs.PackageVisits.{PairVisit, is_kept, is_on}
 
@@ -24,10 +24,6 @@ is_chosen test t =
     not (has_kind (codes "custom-build") t)
     && (if test then t.test || t.doctest || has_kind (codes "example") t else is_library t || has_kind (codes "bin") t)
 
--- Whether package `q` is a procedural macro for those that depend on it.
-abbrev pub is_macro : List PackageText → ℕ → Bool
-is_macro packages q = option_map_or is_proc_macro (slice_get packages q) false
-
 -- Whether a target of package `q` is a procedural macro.
 abbrev pub has_macro : List PackageText → ℕ → Bool
 has_macro packages q = option_map_or has_macro_target (slice_get packages q) false
@@ -42,7 +38,7 @@ is_followed r p d =
 
 -- Whether the declaration counts in the build: not for development or with tests, and on the host or on one of the targets.
 abbrev pub counts : SettingsText → DeclarationText → Bool
-counts s d = (not (is_development d.kind) || s.test) && (admits s.host d.platform || list_any (λ holds. admits holds d.platform) s.targets)
+counts s d = (not (is_development d.kind) || s.test) && (admits s.host d.platform || admits_any s.targets d.platform)
 
 -- Whether the feature is on in the package that the declaration leads to from the target side.
 abbrev pub leads_on : TargetRules → Text → DeclarationText → Bool

@@ -1,14 +1,14 @@
 //! The entries that start, by number.
 ghost use Rattle.std.specs.Prelude.{◌≡◌, ◌++◌, ◌∷◌, [], IfOk, OnOk, if◌then◌else◌, map};
-ghost use Rattle.step_visits.specs.feature_labels.Names.LabelName.{base};
-ghost use Rattle.step_visits.specs.Visits.{place_view};
+ghost use Rattle.feature_labels.specs.Names.LabelName.{base};
+ghost use Rattle.plan_starts.specs.step_visits.Visits.{place_view};
 ghost use Rattle.plan_starts.specs.Starts as spec;
 ghost use Rattle.plan_starts.specs.Starts.{times};
 ghost use Rattle.plan_starts.specs.StartViews.{starts_text};
 
 use crate::starts::Starts;
+use crate::step_visits::FeatureLabel;
 use std::alloc::{AllocError, Global};
-use step_visits::FeatureLabel;
 
 /// Returns the flags of the host's entries, then those of each of `count` target platforms.
 fn joined(

@@ -5,6 +5,7 @@ mod flags;
 mod marks;
 mod package_visit;
 mod starts;
+pub mod step_visits;
 mod targets;
 mod tests_of;
 

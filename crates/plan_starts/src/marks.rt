@@ -2,7 +2,6 @@
 ghost use Rattle.std.specs.Prelude.{◌≡◌, ℕ, IfOk, IsTrue, length, nat_lt};
 ghost use Rattle.std.specs.List.{list_all};
 ghost use Rattle.digraphs.specs.Bits.{has};
-ghost use Rattle.plan_rows.specs.Tables.{flag_at};
 ghost use Rattle.plan_starts.specs.Starts.{is_among};
 
 use digraphs::IxBitSet;
@@ -23,14 +22,4 @@ pub(crate) fn marks_of(
         set.insert(number);
     }
     Ok(set)
-}
-
-/// Returns the flag at `ix`, false past the end.
-pub(crate) fn flag_of(flags: &[bool], ix: usize) -> bool
-    ensures { result ≡ flag_at flags.now ix }
-{
-    match flags.get(ix) {
-        Some(flag) => *flag,
-        None => false,
-    }
 }

@@ -1,14 +1,14 @@
 //! Visits of a step in which each package has two entries.
 ghost use Rattle.std.specs.Prelude.{◌≡◌, ◌+◌, ◌<◌, ◌≤◌, ◌^◌};
-ghost use Rattle.step_visits.specs.feature_labels.Names.{label_of};
-ghost use Rattle.step_visits.specs.feature_labels.Names.LabelName.{base, named, optional};
+ghost use Rattle.feature_labels.specs.Names.{label_of};
+ghost use Rattle.feature_labels.specs.Names.LabelName.{base, named, optional};
 ghost use Rattle.plan_rows.specs.Steps.{is_host};
 ghost use Rattle.plan_starts.specs.PackageVisits as spec;
 ghost use Rattle.plan_starts.specs.PackageVisits.{is_kept, is_on, reaches_at};
 
+use crate::step_visits::{FeatureLabel, Visited};
 use plan_rows::{Kept, Side, TurnedOn};
 use std::marker::Model;
-use step_visits::{FeatureLabel, Visited};
 
 /// A visit of a step in which each package has two entries: step `resolved`, where a package is a dependency of others and a started
 /// one, or step `on`, where it is on the target side and on the host side.
@@ -37,13 +37,6 @@ impl Model for PackageVisit {
     ghost view = { λ v. record { count = v.count; visit = v.visited } };
 
     ghost invariant = { λ v. v.count + v.count < 2 ^ 64 };
-}
-
-/// Returns whether `side` is the host side.
-fn is_host_side(side: Side) -> bool
-    ensures { result ≡ is_host side }
-{
-    matches!(side, Side::Host)
 }
 
 /// Returns the number of the first of the first entries of `count` packages, or of the second ones.
@@ -93,14 +86,14 @@ impl PackageVisit {
     pub fn has_feature(&self, side: Side, ix: usize, name: &str) -> bool
         ensures { result ≡ is_on self.now side ix (named name.now) }
     {
-        self.reaches(is_host_side(side), ix, FeatureLabel::Named(name))
+        self.reaches(side.is_host(), ix, FeatureLabel::Named(name))
     }
 
     /// Returns whether package `ix` is on, on `side`, by the visit of step `on`.
     pub fn has_package(&self, side: Side, ix: usize) -> bool
         ensures { result ≡ is_on self.now side ix base }
     {
-        self.reaches(is_host_side(side), ix, FeatureLabel::Base)
+        self.reaches(side.is_host(), ix, FeatureLabel::Base)
     }
 }
 
@@ -117,10 +110,6 @@ impl TurnedOn for PackageVisit {
     ghost turned_on = { λ v side ix name. is_on v side ix (optional name) };
 
     fn is_on(&self, side: Side, ix: usize, name: &str) -> bool {
-        self.reaches(
-            is_host_side(side),
-            ix,
-            FeatureLabel::OptionalDependency(name),
-        )
+        self.reaches(side.is_host(), ix, FeatureLabel::OptionalDependency(name))
     }
 }

@@ -3,7 +3,6 @@ ghost use Rattle.std.specs.Prelude.{◌≡◌, ◌&&◌, IfOk, IsTrue, length, m
 ghost use Rattle.std.specs.List.{list_all};
 ghost use Rattle.digraphs.specs.Bits.{has};
 ghost use Rattle.cargo_workspaces.specs.Views.{package_text};
-ghost use Rattle.plan_rows.specs.Steps as steps;
 ghost use Rattle.plan_rows.specs.Tables.{each_from};
 ghost use Rattle.plan_starts.specs.Starts as spec;
 ghost use Rattle.plan_starts.specs.Starts.{starts_on_host};
@@ -11,11 +10,12 @@ ghost use Rattle.plan_starts.specs.StartViews.{starts_text};
 ghost use Rattle.plan_starts.specs.TargetViews.{rules_text};
 ghost use Rattle.plan_starts.specs.Targets as targets;
 
-use crate::marks::{flag_of, marks_of};
+use crate::marks::marks_of;
 use crate::package_visit::PackageVisit;
 use crate::targets::{TargetRules, builds};
 use cargo_workspaces::Package;
 use digraphs::IxBitSet;
+use plan_rows::rules::{flag_of, host_side};
 use plan_rows::{Platform, Side};
 use std::alloc::{AllocError, Global};
 
@@ -83,13 +83,6 @@ pub fn starts_of<P: Platform>(
         others,
         hosts,
     })
-}
-
-/// Returns the side of the host's place.
-fn host_side(split: bool) -> Side
-    ensures { result ≡ steps.side_of split true }
-{
-    if split { Side::Host } else { Side::Target }
 }
 
 /// Returns the side on which package `ix` starts and isn't on, if there is one.

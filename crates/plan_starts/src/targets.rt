@@ -1,24 +1,23 @@
 //! The targets of a package that a command line chooses.
-ghost use Rattle.std.specs.Prelude.{◌≡◌, ◌&&◌, ◌||◌, ℕ, None, Some, IfOk, OnOk, false, if◌then◌else◌, not, map, option_map};
+ghost use Rattle.std.specs.Prelude.{◌≡◌, ◌&&◌, ◌||◌, ℕ, None, Some, IfOk, OnOk, false, if◌then◌else◌, not, map};
 ghost use Rattle.std.specs.BTreeSet.{contains};
 ghost use Rattle.std.specs.List.{list_all, list_any};
 ghost use Rattle.std.specs.Option.{option_map_or};
 ghost use Rattle.std.specs.Ordering.{nat_cmp};
 ghost use Rattle.cargo_workspaces.specs.Views.{declaration_text, package_text, target_text, texts};
 ghost use Rattle.cargo_workspaces.specs.Workspaces.{both_lead_to, is_macro_target};
-ghost use Rattle.plan_rows.specs.Commands.{command_texts, is_started};
 ghost use Rattle.plan_rows.specs.SettingsView.{settings_text};
-ghost use Rattle.plan_rows.specs.Steps as steps;
 ghost use Rattle.plan_starts.specs.Targets as spec;
-ghost use Rattle.plan_starts.specs.Targets.{has_macro, is_macro};
+ghost use Rattle.plan_starts.specs.Targets.{has_macro};
 ghost use Rattle.plan_starts.specs.TargetViews.{rules_text};
 
 use crate::package_visit::PackageVisit;
+use crate::step_visits::NamedFeatureDep;
 use cargo_workspaces::{Declaration, Kind, Package, Target};
+use plan_rows::rules::{admits, admits_any, has_command, is_macro_at, lands};
 use plan_rows::{Kept, Platform, Settings, Side};
 use std::alloc::{AllocError, Global};
 use std::collections::BTreeSet;
-use step_visits::NamedFeatureDep;
 
 /// By what targets are chosen.
 #[derive(Drop)]
@@ -46,27 +45,6 @@ fn is_chosen(test: bool, target: &Target<'_>) -> bool
     }
 }
 
-/// Returns the side on which `declaration` leads to a package from the target side: `is_macro` is whether that is a procedural macro.
-fn lands(split: bool, declaration: &Declaration<'_>, is_macro: bool) -> Side
-    ensures { result ≡ steps.lands split (declaration_text declaration.now) is_macro Side.Target }
-{
-    if split && (declaration.kind == Kind::Build || is_macro) {
-        Side::Host
-    } else {
-        Side::Target
-    }
-}
-
-/// Returns whether package `ix` is a procedural macro for those that depend on it.
-fn is_macro_at(packages: &[Package<'_>], ix: usize) -> bool
-    ensures { result ≡ is_macro (map package_text packages.now) ix }
-{
-    match packages.get(ix) {
-        Some(package) => package.is_proc_macro(),
-        None => false,
-    }
-}
-
 /// Returns whether a target of package `ix` is a procedural macro.
 pub fn has_macro_at(packages: &[Package<'_>], ix: usize) -> bool
     ensures { result ≡ has_macro (map package_text packages.now) ix }
@@ -75,35 +53,6 @@ pub fn has_macro_at(packages: &[Package<'_>], ix: usize) -> bool
         Some(package) => package.has_proc_macro(),
         None => false,
     }
-}
-
-/// Returns whether a declaration with this platform applies on `holder`.
-fn admits<P: Platform>(holder: &P, platform: Option<&str>) -> bool
-    ensures { result ≡ steps.admits (P.holds holder.now) (option_map (λ t. t.now) platform.entry) }
-{
-    match platform {
-        None => true,
-        Some(spec) => holder.holds(spec),
-    }
-}
-
-/// Returns whether a declaration with this platform applies on one of `targets`.
-fn admits_any<P: Platform>(targets: &[P], platform: Option<&str>) -> bool
-    ensures { result ≡ list_any (λ holds. steps.admits holds (option_map (λ t. t.now) platform.entry)) (map P.holds targets.now) }
-{
-    for target in targets {
-        if admits(target, platform) {
-            return true;
-        }
-    }
-    false
-}
-
-/// Returns whether package `ix` has a command feature.
-fn has_command<P>(settings: &Settings<'_, '_, P>, ix: usize) -> bool
-    ensures { result ≡ is_started (command_texts settings.now.commands.now) ix }
-{
-    matches!(settings.commands.get(ix), Some(Some(_)))
 }
 
 /// Returns whether version resolving follows `declaration` of package `ix`.
@@ -115,7 +64,7 @@ fn is_followed<P: Platform>(
     ensures { result ≡ spec.is_followed (rules_text P.holds rules.now) ix (declaration_text declaration.now) }
 {
     declaration.leads_to.is_some()
-        && (declaration.kind != Kind::Development || has_command(rules.settings, ix))
+        && (declaration.kind != Kind::Development || has_command(rules.settings.commands, ix))
         && (!declaration.optional || rules.kept.is_kept(ix, declaration.name))
 }
 
@@ -139,7 +88,7 @@ fn leads_on<P: Platform>(
     match declaration.leads_to {
         Some(to) => {
             let is_macro = is_macro_at(rules.packages, to);
-            let side = lands(rules.settings.split, declaration, is_macro);
+            let side = lands(rules.settings.split, declaration, is_macro, Side::Target);
             rules.on.has_feature(side, to, feature)
         }
         None => false,

@@ -8,7 +8,7 @@ use Rattle.feature_core.specs.Built.{Built, IsBuilt}
 use Rattle.feature_core.specs.Nodes.{node_packages}
 use Rattle.feature_core.specs.Offers.{content_of}
 use Rattle.cargo_plans.specs.plan_starts.PackageVisits.{PairVisit}
-use Rattle.step_visits.specs.Visits.{Visit}
+use Rattle.plan_starts.specs.step_visits.Visits.{Visit}
 use Rattle.walk_checks.specs.Whys.{IsWhy}
 use Rattle.walk_engine.specs.Explanations.{IsExplanation, nodes_of}
 use Rattle.walk_engine.specs.Laws.{every}

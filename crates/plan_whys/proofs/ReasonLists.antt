@@ -11,7 +11,7 @@ use Rattle.feature_core.specs.Offers.{content_of}
 use Rattle.feature_core.specs.Ways.{Reading}
 use Rattle.cargo_plans.specs.plan_starts.Lists.{joined_from}
 use Rattle.cargo_plans.specs.plan_starts.PackageVisits.{PairVisit}
-use Rattle.step_visits.specs.Visits.{Visit}
+use Rattle.plan_starts.specs.step_visits.Visits.{Visit}
 use Rattle.walk_checks.specs.Tables.{IsEdge}
 use Rattle.walk_checks.specs.declared.table.TableEdge.{TableEdge}
 use Rattle.walk_engine.specs.Walks.{Content, EndsAreNodes, IsWay, Way, is_gated}

@@ -6,7 +6,7 @@ use Rattle.feature_core.specs.Nodes.{NodeAt}
 use Rattle.feature_labels.specs.Names.{LabelName}
 use Rattle.cargo_plans.specs.plan_rows.declared.side.Side.TheVariants.{Target, Host}
 use Rattle.cargo_plans.specs.plan_starts.PackageVisits.{PairVisit}
-use Rattle.step_visits.specs.Visits.{Visit}
+use Rattle.plan_starts.specs.step_visits.Visits.{Visit}
 use Rattle.plan_whys.specs.Steps.{IsAt, SpotText, spot_at}
 
 pub spot_if : (count k : ℕ) (label : LabelName) (inside : Bool) → nat_lt k count ≡ inside

@@ -12,8 +12,8 @@ use Rattle.cargo_plans.specs.plan_rows.Steps.{SettingsText, side_base}
 use Rattle.cargo_plans.specs.plan_rows.declared.side.Side.{Side}
 use Rattle.cargo_plans.specs.plan_rows.declared.side.Side.TheVariants.{Target, Host}
 use Rattle.cargo_plans.specs.plan_starts.PackageVisits.{PairVisit}
-use Rattle.step_visits.specs.Visits.{is_start, node_at}
-use Rattle.step_visits.proofs.Places.{node_back_at}
+use Rattle.plan_starts.specs.step_visits.Visits.{is_start, node_at}
+use Rattle.plan_starts.proofs.Places.{node_back_at}
 use Rattle.walk_engine.specs.Explanations.{IsReason, nodes_of}
 use Rattle.walk_engine.specs.Laws.{every}
 use Rattle.walk_engine.specs.Walks.{Content, Way, has_gate, is_in}

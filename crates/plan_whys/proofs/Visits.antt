@@ -19,7 +19,7 @@ use Rattle.cargo_plans.specs.plan_rows.declared.side.Side.TheVariants.{Target, H
 use Rattle.cargo_plans.specs.plan_starts.PackageVisits.{PairVisit, first_entry, is_on}
 use Rattle.cargo_plans.specs.plan_steps.Plans.{IsOn}
 use Rattle.cargo_plans.specs.plan_units.Commands.{on_starts}
-use Rattle.step_visits.specs.Visits.{IsVisit, Visit, is_start, node_at, reaches, place_view}
+use Rattle.plan_starts.specs.step_visits.Visits.{IsVisit, Visit, is_start, node_at, reaches, place_view}
 use Rattle.walk_engine.specs.Laws.{every}
 use Rattle.walk_engine.specs.Walks.{Content, Least}
 use Rattle.plan_whys.specs.Steps.{SpotText, WhyText}

@@ -4,3 +4,4 @@ pub mod NodeWhys
 pub mod Whys
 pub mod Reasons
 pub mod inner
+pub mod links

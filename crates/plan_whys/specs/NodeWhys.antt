@@ -5,7 +5,7 @@ use Rattle.feature_core.specs.Offers.{content_of}
 use Rattle.guppy_packages.specs.declared.direction.DependencyDirection.TheVariants.{Forward}
 use Rattle.cargo_plans.specs.plan_rows.Steps.{side_base}
 use Rattle.cargo_plans.specs.plan_starts.PackageVisits.{PairVisit}
-use Rattle.step_visits.specs.Visits.{node_at}
+use Rattle.plan_starts.specs.step_visits.Visits.{node_at}
 use Rattle.walk_checks.specs.Whys.{IsWhy}
 use Rattle.walk_engine.specs.Explanations.{IsExplanation}
 use Rattle.walk_engine.specs.Laws.{every}

@@ -8,7 +8,7 @@ use Rattle.cargo_plans.specs.plan_rows.Steps.{SettingsText}
 use Rattle.cargo_plans.specs.plan_starts.PackageVisits.{PairVisit, is_on}
 use Rattle.cargo_plans.specs.plan_steps.Plans.{IsOn}
 use Rattle.cargo_plans.specs.plan_units.Commands.{on_starts}
-use Rattle.step_visits.specs.Visits.{is_start}
+use Rattle.plan_starts.specs.step_visits.Visits.{is_start}
 use Rattle.plan_whys.specs.StepViews.{found_text, spot_text}
 use Rattle.plan_whys.specs.Steps.{SpotText, WhyText}
 use Rattle.plan_whys.specs.declared.steps.Spot.{Spot}

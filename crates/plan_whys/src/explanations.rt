@@ -8,10 +8,10 @@ ghost use Rattle.walk_engine.specs.Explanations.{IsExplanation, nodes_of};
 ghost use Rattle.walk_engine.specs.Laws.{every};
 ghost use Rattle.walk_engine.specs.Walks.{Least, is_in};
 
+use digraphs::IxBitSet;
 use feature_core::laws::{agrees_by_answer, walk_is_exact};
 use feature_core::{FeatureGraphData, Packed};
 use guppy_packages::DependencyDirection;
-use digraphs::IxBitSet;
 use std::alloc::{AllocError, Global};
 use walk_engine::{Half, Offerer, Step, walk_explained};
 

@@ -4,6 +4,7 @@
 mod direct_reasons;
 mod explanations;
 mod laws;
+pub mod links;
 mod nodes;
 mod spots;
 mod step_reasons;

@@ -17,9 +17,9 @@ use crate::explanations::{explanation_from, kept_steps};
 use crate::spots::steps_of;
 use crate::steps::{Spot, WhyStep};
 use cargo_plans::PackageVisit;
+use digraphs::IxBitSet;
 use feature_core::FeatureGraphData;
 use feature_core::graph_laws::content_of_graph;
-use digraphs::IxBitSet;
 use std::alloc::{AllocError, Global};
 use walk_engine::Step;
 

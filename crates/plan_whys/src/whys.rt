@@ -8,7 +8,7 @@ ghost use Rattle.feature_core.specs.Nodes.{node_packages};
 ghost use Rattle.cargo_plans.specs.plan_rows.SettingsView.{settings_text};
 ghost use Rattle.cargo_plans.specs.plan_steps.PlanViews.{plan_text};
 ghost use Rattle.cargo_plans.specs.plan_units.Commands.{on_starts};
-ghost use Rattle.step_visits.specs.Visits.{is_start};
+ghost use Rattle.plan_starts.specs.step_visits.Visits.{is_start};
 ghost use Rattle.plan_whys.specs.StepViews.{spot_text, why_text};
 ghost use Rattle.plan_whys.specs.Whys.{Answers, AnswersBy, AnswersEach, AnswersEachBy, IsOnBy};
 ghost use Rattle.plan_whys.specs.inner.Nodes.{IsLeast};
@@ -17,8 +17,8 @@ use crate::nodes::{each_from, node_of, why_from};
 use crate::steps::{Spot, WhyStep};
 use cargo_plans::{PackageVisit, Plan, PlanWords, Platform, Settings, on_places};
 use cargo_workspaces::Workspace;
-use feature_core::graph_laws::one_content;
 use digraphs::IxBitSet;
+use feature_core::graph_laws::one_content;
 use plan_words::choose;
 use std::alloc::{AllocError, Global};
 

@@ -4,3 +4,5 @@ pub mod Problems
 pub mod Rules
 pub mod Views
 pub mod inner
+pub mod checks
+pub use Rattle.plan_whys.specs as plan_whys

@@ -1,6 +1,7 @@
 //! Policies: files whose lines are rules about the features and packages of a build.
 #![tactic(auto)]
 
+pub mod checks;
 mod fault;
 mod kinds;
 mod line_parts;

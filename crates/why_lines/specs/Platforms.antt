@@ -3,8 +3,8 @@ use Rattle.std.specs.Prelude.{ℕ, List, [], ◌∷◌, ◌++◌, map, fold, Boo
 use Rattle.std.specs.List.{list_any}
 use Rattle.std.specs.Option.{option_map_or}
 use Rattle.std.specs.Str.{bytes_eq}
-use Rattle.cargo_workspaces.specs.Workspaces.{Text, DeclarationText, PackageText, both_lead_to, is_proc_macro}
-use Rattle.plan_rows.specs.Steps.{admits, is_build, is_development, is_host, lands}
+use Rattle.cargo_workspaces.specs.Workspaces.{Text, DeclarationText, PackageText, both_lead_to}
+use Rattle.plan_rows.specs.Steps.{applies_on, is_development, is_host, is_macro, lands}
 use Rattle.plan_rows.specs.declared.side.Side.{Side}
 use Rattle.why_lines.specs.Relations.{is_by_declaration, relation_from}
 use Rattle.why_lines.specs.Settings.{SettingsText}
@@ -14,10 +14,6 @@ use Rattle.plan_whys.specs.Steps.{SpotText}
 abbrev pub is_same_side : Side → Side → Bool
 is_same_side a b = if is_host a then is_host b else not (is_host b)
 
--- Whether the platform is one of those that count for a declaration, on the side of its package.
-abbrev pub holds_on : SettingsText → Side → DeclarationText → Bool
-holds_on s side d = if is_build d.kind || is_host side then admits s.host d.platform else list_any (λ holds. admits holds d.platform) s.targets
-
 -- Whether the declaration leads from its package, at `start`, to the package at `at`, which is or isn't a procedural macro. A declaration
 -- for development counts if tests are built; an optional one is counted as the others are.
 abbrev pub leads_to_spot : SettingsText → Bool → SpotText → SpotText → DeclarationText → Bool
@@ -25,7 +21,7 @@ leads_to_spot s macro start at d =
     both_lead_to d.leads_to (Some at.number)
     && is_same_side (lands s.split d macro start.side) at.side
     && (not (is_development d.kind) || s.test)
-    && holds_on s start.side d
+    && applies_on s.host s.targets start.side d
 
 -- The platform of a declaration that passes the test.
 abbrev pub platform_if : (DeclarationText → Bool) → DeclarationText → Option Text
@@ -44,14 +40,10 @@ with_text texts (Some text) = if list_any (bytes_eq text) texts then texts else 
 abbrev pub platforms_by : (DeclarationText → Bool) → List DeclarationText → List Text
 platforms_by test ds = if list_any (is_anywhere test) ds then [] else fold with_text [] (map (platform_if test) ds)
 
--- Whether package `p` is a procedural macro.
-abbrev pub is_macro_at : List PackageText → ℕ → Bool
-is_macro_at packages p = option_map_or is_proc_macro (slice_get packages p) false
-
 -- The platforms for which the package of `start` depends on the package of `at`. Without sides platforms don't count.
 abbrev pub platforms_between : SettingsText → List PackageText → SpotText → SpotText → List Text
 platforms_between s packages start at =
-    option_map_or (λ p. platforms_by (leads_to_spot s (is_macro_at packages at.number) start at) p.declarations) (slice_get packages start.number) []
+    option_map_or (λ p. platforms_by (leads_to_spot s (is_macro packages at.number) start at) p.declarations) (slice_get packages start.number) []
 
 abbrev pub shown_platforms : SettingsText → List PackageText → SpotText → SpotText → List Text
 shown_platforms s packages start at = if s.split && is_by_declaration (relation_from start at) then platforms_between s packages start at else []

@@ -4,7 +4,6 @@ ghost use Rattle.std.specs.List.{list_any};
 ghost use Rattle.std.specs.Str.{bytes_eq};
 ghost use Rattle.cargo_workspaces.specs.Views.{declaration_text, package_text, texts as texts_of};
 ghost use Rattle.cargo_workspaces.specs.Workspaces.{both_lead_to};
-ghost use Rattle.plan_rows.specs.Steps as steps;
 ghost use Rattle.why_lines.specs.Platforms as spec;
 ghost use Rattle.why_lines.specs.Settings.{settings_text};
 ghost use Rattle.plan_whys.specs.StepViews.{spot_text};
@@ -12,69 +11,19 @@ ghost use Rattle.plan_whys.specs.StepViews.{spot_text};
 use crate::relations::{is_by_declaration, relation_from};
 use crate::settings::WhySettings;
 use cargo_workspaces::{Declaration, Kind, Package};
+use plan_rows::rules::{applies_on, is_macro_at, lands};
 use plan_rows::{Platform, Side};
 use plan_whys::Spot;
 use std::alloc::{AllocError, Global};
-
-/// Returns whether `side` is the host.
-fn is_host(side: Side) -> bool
-    ensures { result ≡ steps.is_host side }
-{
-    matches!(side, Side::Host)
-}
 
 /// Returns whether both are the same side.
 fn is_same_side(a: Side, b: Side) -> bool
     ensures { result ≡ spec.is_same_side a b }
 {
-    if is_host(a) { is_host(b) } else { !is_host(b) }
-}
-
-/// Returns whether a declaration with this platform applies on `holder`.
-fn admits<P: Platform>(holder: &P, platform: Option<&str>) -> bool
-    ensures { result ≡ steps.admits (P.holds holder.now) (option_map (λ t. t.now) platform.entry) }
-{
-    match platform {
-        None => true,
-        Some(text) => holder.holds(text),
-    }
-}
-
-/// Returns whether a declaration with this platform applies on one of `targets`.
-fn admits_any<P: Platform>(targets: &[P], platform: Option<&str>) -> bool
-    ensures { result ≡ list_any (λ holds. steps.admits holds (option_map (λ t. t.now) platform.entry)) (map P.holds targets.now) }
-{
-    for target in targets {
-        if admits(target, platform) {
-            return true;
-        }
-    }
-    false
-}
-
-/// Returns whether the platform of `declaration` is one of those that count on `side`.
-fn holds_on<P: Platform>(
-    settings: &WhySettings<'_, P>,
-    side: Side,
-    declaration: &Declaration<'_>,
-) -> bool
-    ensures { result ≡ spec.holds_on (settings_text P.holds settings.now) side (declaration_text declaration.now) }
-{
-    if declaration.kind == Kind::Build || is_host(side) {
-        admits(settings.host, declaration.platform)
+    if a.is_host() {
+        b.is_host()
     } else {
-        admits_any(settings.targets, declaration.platform)
-    }
-}
-
-/// Returns the side on which `declaration` leads to a package: `is_macro` is whether that is a procedural macro.
-fn lands(split: bool, declaration: &Declaration<'_>, is_macro: bool, side: Side) -> Side
-    ensures { result ≡ steps.lands split (declaration_text declaration.now) is_macro side }
-{
-    if split && (declaration.kind == Kind::Build || is_macro) {
-        Side::Host
-    } else {
-        side
+        !b.is_host()
     }
 }
 
@@ -112,7 +61,7 @@ fn leads<P: Platform>(
             between.at.side,
         )
         && (declaration.kind != Kind::Development || settings.test)
-        && holds_on(settings, side, declaration)
+        && applies_on(settings.host, settings.targets, side, declaration)
 }
 
 /// Returns whether one of `declarations` leads there and is for every platform.
@@ -198,16 +147,6 @@ fn platforms_by<'v, P: Platform>(
         return Ok(Vec::new(alloc));
     }
     platforms_in(alloc, settings, between, declarations)
-}
-
-/// Returns whether package `ix` is a procedural macro.
-fn is_macro_at(packages: &[Package<'_>], ix: usize) -> bool
-    ensures { result ≡ spec.is_macro_at (map package_text packages.now) ix }
-{
-    match packages.get(ix) {
-        Some(package) => package.is_proc_macro(),
-        None => false,
-    }
 }
 
 /// Returns the platforms for which the package of `start` depends on the package of `at`.

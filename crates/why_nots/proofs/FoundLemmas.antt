@@ -4,8 +4,8 @@ use Rattle.std.specs.Prelude.{IsFalse, zip}
 use Rattle.std.specs.Global.{Vec}
 use Rattle.std.specs.List.{AllZip, list_any}
 use Rattle.std.proofs.lemmas.Bool.{or_parts}
-use Rattle.built_parts.specs.Built.{state_of}
-use Rattle.built_parts.specs.declared.state.PartState.{PartState}
+use Rattle.cargo_plans.specs.built_parts.Built.{state_of}
+use Rattle.cargo_plans.specs.declared.built_parts.state.PartState.{PartState}
 use Rattle.cargo_plans.specs.Plans.{IsPlanOf, WordsText, settings_by}
 use Rattle.cargo_plans.specs.Refusals.{IsRefusal, is_memory}
 use Rattle.cargo_plans.specs.declared.fault.PlanFault.{PlanFault}
@@ -14,7 +14,7 @@ use Rattle.cargo_plans.specs.plan_steps.Plans.{PlanText}
 use Rattle.cargo_workspaces.specs.Workspaces.{Text, WorkspaceText}
 use Rattle.feats_words.specs.declared.command_arguments.Format.{Format}
 use Rattle.feature_labels.specs.Names.{LabelName}
-use Rattle.plan_messages.specs.Messages.{plan_message}
+use Rattle.feats_files.specs.plan_messages.Messages.{plan_message}
 use Rattle.plan_rows.specs.declared.side.Side.{Side}
 use Rattle.plan_rows.specs.declared.side.Side.TheVariants.{Host, Target}
 use Rattle.plan_whys.specs.StepViews.{found_text, spot_text}

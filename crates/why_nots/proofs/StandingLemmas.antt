@@ -1,7 +1,7 @@
 -- How parts stand, from the states of the two sides.
 use Rattle.std.proofs.Common.{◌≡◌, Bool, true, false, ◌||◌, refl}
 use Rattle.std.specs.Prelude.{IsFalse}
-use Rattle.built_parts.specs.Built.{is_built, state_if}
+use Rattle.cargo_plans.specs.built_parts.Built.{is_built, state_if}
 use Rattle.cargo_plans.specs.plan_starts.PackageVisits.{is_on}
 use Rattle.cargo_plans.specs.plan_steps.Plans.{PlanText}
 use Rattle.plan_rows.specs.declared.side.Side.{Side}

@@ -1,13 +1,13 @@
 -- What is answered about a part by some words.
 use Rattle.std.specs.Prelude.{◌≡◌, ℕ, List, IsFalse, Option, Some}
 use Rattle.cargo_workspaces.specs.Workspaces.{Text, WorkspaceText}
-use Rattle.built_parts.specs.Built.{is_part_built}
-use Rattle.built_parts.specs.Scripts.{lacking_script}
+use Rattle.cargo_plans.specs.built_parts.Built.{is_part_built}
+use Rattle.cargo_plans.specs.built_parts.Scripts.{lacking_script}
 use Rattle.cargo_plans.specs.plan_steps.Plans.{PlanText}
 use Rattle.cargo_plans.specs.Plans.{IsPlanOf, WordsText}
 use Rattle.cargo_plans.specs.Refusals.{IsRefusal, is_memory}
 use Rattle.cargo_plans.specs.declared.fault.PlanFault.{PlanFault}
-use Rattle.plan_messages.specs.Messages.{plan_message}
+use Rattle.feats_files.specs.plan_messages.Messages.{plan_message}
 use Rattle.plan_rows.specs.declared.side.Side.{Side}
 use Rattle.plan_whys.specs.Steps.{WhyText}
 use Rattle.plan_whys.specs.Whys.{AnswersBy}

@@ -1,9 +1,9 @@
 -- How a part stands in a plan: whether it is on, and whether its package is built.
 use Rattle.std.specs.Prelude.{ℕ, Bool}
 use Rattle.feature_labels.specs.Names.{LabelName}
-use Rattle.built_parts.specs.Built.{state_of}
-use Rattle.built_parts.specs.declared.state.PartState.{PartState}
-use Rattle.built_parts.specs.declared.state.PartState.TheVariants as state
+use Rattle.cargo_plans.specs.built_parts.Built.{state_of}
+use Rattle.cargo_plans.specs.declared.built_parts.state.PartState.{PartState}
+use Rattle.cargo_plans.specs.declared.built_parts.state.PartState.TheVariants as state
 use Rattle.cargo_plans.specs.plan_steps.Plans.{PlanText}
 use Rattle.plan_rows.specs.declared.side.Side.{Side}
 use Rattle.plan_rows.specs.declared.side.Side.TheVariants.{Host, Target}

@@ -1,22 +1,22 @@
 //! What plans build.
 ghost use Rattle.std.specs.Prelude.{◌≡◌, ℕ, IfOk, map, option_map, string_bytes};
-ghost use Rattle.built_parts.specs.Built.{is_part_built, state_of};
-ghost use Rattle.built_parts.specs.BuiltViews.{script_in, state_in};
-ghost use Rattle.built_parts.specs.Scripts.{lacking_script};
+ghost use Rattle.cargo_plans.specs.built_parts.Built.{is_part_built, state_of};
+ghost use Rattle.cargo_plans.specs.built_parts.BuiltViews.{script_in, state_in};
+ghost use Rattle.cargo_plans.specs.built_parts.Scripts.{lacking_script};
 ghost use Rattle.cargo_plans.specs.WordsView.{words_text};
 ghost use Rattle.cargo_plans.specs.plan_steps.PlanViews.{plan_text};
 ghost use Rattle.cargo_workspaces.specs.WorkspaceView.{workspace_text};
-ghost use Rattle.plan_platforms.specs.HeldSpecs.{holds_on};
+ghost use Rattle.plan_rows.specs.platforms.HeldSpecs.{holds_on};
 ghost use Rattle.why_nots.specs.PartView.{part_text};
 ghost use Rattle.why_nots.specs.StandingView.{standing_text};
 ghost use Rattle.why_nots.specs.inner.Lists as spec;
 
 use crate::parts::{OffPart, spot_on};
 use crate::standings::{Standing, standing_of};
-use built_parts::{BuiltParts, LackingScripts};
+use cargo_plans::built_parts::{BuiltParts, LackingScripts};
 use cargo_plans::{Plan, PlanWords};
 use cargo_workspaces::Workspace;
-use plan_platforms::HeldSpecs;
+use plan_rows::platforms::HeldSpecs;
 use std::alloc::{AllocError, Global};
 use why_lines::{UnbuiltSpot, unbuilt_message};
 

@@ -12,8 +12,8 @@ use cargo_workspaces::Workspace;
 use feature_labels::FeatureLabel;
 use json::Writer;
 use line_parts::{write_member, write_optional};
-use wider_selections::widenings::Widening;
 use std::alloc::AllocError;
+use wider_selections::widenings::Widening;
 
 /// Returns the id of package `ix`; nothing, if there is no such package.
 fn id_at<'w>(workspace: &'w Workspace<'_>, ix: usize) -> &'w str

@@ -1,12 +1,12 @@
 //! The messages of widened selections that have no plan.
 ghost use Rattle.std.specs.Prelude.{◌≡◌, IfOk, string_bytes};
 ghost use Rattle.cargo_workspaces.specs.WorkspaceView.{workspace_text};
-ghost use Rattle.plan_messages.specs.Messages.{plan_message};
+ghost use Rattle.feats_files.specs.plan_messages.Messages.{plan_message};
 
 use cargo_plans::PlanFault;
 use cargo_workspaces::Workspace;
 use feats_files::Fault;
-use plan_messages::plan_refused;
+use feats_files::plan_messages::plan_refused;
 use std::alloc::{AllocError, Global};
 
 /// Returns the message about `fault`, which a selection in `workspace` has.

@@ -2,7 +2,7 @@
 ghost use Rattle.std.specs.Prelude.{◌≡◌, ◌++◌, IfOk, map, option_map, string_bytes};
 ghost use Rattle.cargo_plans.specs.WordsView.{words_text};
 ghost use Rattle.cargo_workspaces.specs.WorkspaceView.{workspace_text};
-ghost use Rattle.plan_platforms.specs.HeldSpecs.{holds_on};
+ghost use Rattle.plan_rows.specs.platforms.HeldSpecs.{holds_on};
 ghost use Rattle.plan_whys.specs.StepViews.{why_text};
 ghost use Rattle.wider_selections.specs.texts.Lines.{on_by, widening_lines};
 ghost use Rattle.wider_selections.specs.texts.SaidView.{said_text};
@@ -19,13 +19,13 @@ use crate::typed_words::{TypedWords, typed_text};
 use cargo_plans::PlanWords;
 use cargo_workspaces::Workspace;
 use feats_words::Format;
-use plan_platforms::HeldSpecs;
+use plan_rows::platforms::HeldSpecs;
 use plan_whys::WhyStep;
-use wider_selections::widenings::Widening;
 use shown_texts::escaped;
 use std::alloc::{AllocError, Global};
 use why_lines::why_lines;
 use wider_selections::texts::{Said, push_widening};
+use wider_selections::widenings::Widening;
 
 /// Returns the lines about `widening`, which say `said`.
 fn lines_by(alloc: Global, widening: Widening, said: Said<'_>) -> Result<Vec<u8>, AllocError>

@@ -1,7 +1,7 @@
 //! The spots at which parts are looked for.
 ghost use Rattle.std.specs.Prelude.{◌≡◌, IfOk, map};
 ghost use Rattle.std.specs.List.{list_any};
-ghost use Rattle.built_parts.specs.BuiltViews.{state_in};
+ghost use Rattle.cargo_plans.specs.built_parts.BuiltViews.{state_in};
 ghost use Rattle.cargo_plans.specs.plan_steps.PlanViews.{plan_text};
 ghost use Rattle.plan_whys.specs.StepViews.{spot_text};
 ghost use Rattle.why_nots.specs.PartView.{part_text};
@@ -13,8 +13,8 @@ use crate::standings::{Standing, standing_of};
 use cargo_plans::Plan;
 use plan_rows::Side;
 use plan_whys::Spot;
-use wider_selections::widenings::sides_of;
 use std::alloc::{AllocError, Global};
+use wider_selections::widenings::sides_of;
 
 /// Returns `part` on the side on which it is built; on the target side, if it isn't.
 fn first_spot<'w>(builds: &Builds<'_>, part: OffPart<'w>) -> Spot<'w>

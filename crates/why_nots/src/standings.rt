@@ -1,12 +1,12 @@
 //! How parts stand in plans.
 ghost use Rattle.std.specs.Prelude.{◌≡◌};
-ghost use Rattle.built_parts.specs.BuiltViews.{state_in};
+ghost use Rattle.cargo_plans.specs.built_parts.BuiltViews.{state_in};
 ghost use Rattle.why_nots.specs.PartView.{part_text};
 ghost use Rattle.why_nots.specs.StandingView.{standing_text};
 ghost use Rattle.why_nots.specs.Standings as spec;
 
 use crate::parts::OffPart;
-use built_parts::{BuiltParts, PartState};
+use cargo_plans::built_parts::{BuiltParts, PartState};
 use plan_rows::Side;
 
 /// How a part stands in a plan.

@@ -6,7 +6,7 @@ ghost use Rattle.cargo_plans.specs.WordsView.{words_text};
 ghost use Rattle.cargo_plans.specs.plan_steps.PlanViews.{plan_text};
 ghost use Rattle.cargo_workspaces.specs.Workspaces.{Text};
 ghost use Rattle.cargo_workspaces.specs.WorkspaceView.{workspace_text};
-ghost use Rattle.plan_platforms.specs.HeldSpecs.{holds_on};
+ghost use Rattle.plan_rows.specs.platforms.HeldSpecs.{holds_on};
 ghost use Rattle.wider_selections.specs.widenings.Widenings.{widened};
 ghost use Rattle.wider_selections.specs.texts.Lines.{head_line};
 ghost use Rattle.why_nots.specs.PartView.{part_text};
@@ -22,10 +22,10 @@ use crate::parts::{OffPart, titles_of};
 use cargo_plans::{Plan, PlanWords};
 use cargo_workspaces::Workspace;
 use feats_words::Format;
-use plan_platforms::HeldSpecs;
-use wider_selections::widenings::Widening;
+use plan_rows::platforms::HeldSpecs;
 use std::alloc::{AllocError, Global};
 use wider_selections::texts::push_head;
+use wider_selections::widenings::Widening;
 
 /// Returns the line that says that `name` is off, or the message about it.
 fn head_line_of(alloc: Global, name: &str, message: Option<&str>) -> Result<Vec<u8>, AllocError>

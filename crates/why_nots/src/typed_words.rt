@@ -2,13 +2,13 @@
 ghost use Rattle.std.specs.Prelude.{◌≡◌, ◌++◌, IfOk, OnOk, string_bytes};
 ghost use Rattle.cargo_plans.specs.WordsView.{words_text};
 ghost use Rattle.cargo_workspaces.specs.Views.{texts};
-ghost use Rattle.plan_platforms.specs.HeldSpecs.{holds_on};
+ghost use Rattle.plan_rows.specs.platforms.HeldSpecs.{holds_on};
 ghost use Rattle.why_nots.specs.Tries.{one_text};
 ghost use Rattle.why_nots.specs.Typed as spec;
 ghost use Rattle.why_nots.specs.inner.Lists.{typed_value};
 
 use cargo_plans::{PackageChoice, PlanWords, Selection};
-use plan_platforms::HeldSpecs;
+use plan_rows::platforms::HeldSpecs;
 use std::alloc::{AllocError, Global};
 use std::slice;
 

@@ -2,11 +2,11 @@
 ghost use Rattle.std.specs.Prelude.{◌≡◌, IfOk, map};
 ghost use Rattle.std.specs.List.{AllZip};
 ghost use Rattle.cargo_plans.specs.Plans.{IsPlanOf};
-ghost use Rattle.cargo_plans.specs.Refusals.{IsRefusal, is_memory};
+ghost use Rattle.cargo_plans.specs.Refusals.{IsRefusal};
 ghost use Rattle.cargo_plans.specs.WordsView.{words_text};
 ghost use Rattle.cargo_workspaces.specs.WorkspaceView.{workspace_text};
-ghost use Rattle.plan_messages.specs.Messages.{plan_message};
-ghost use Rattle.plan_platforms.specs.HeldSpecs.{holds_on};
+ghost use Rattle.feats_files.specs.plan_messages.Messages.{plan_message};
+ghost use Rattle.plan_rows.specs.platforms.HeldSpecs.{holds_on};
 ghost use Rattle.cargo_plans.specs.plan_steps.PlanViews.{plan_text};
 ghost use Rattle.why_nots.specs.Answers.{not_planned};
 ghost use Rattle.why_nots.specs.PartView.{part_text};
@@ -23,13 +23,14 @@ use crate::sections::section_of;
 use crate::small_words::told_each;
 use crate::spots::{first_spots, is_one_on};
 use crate::told::{PartAnswer, Told, with_answers};
-use cargo_plans::{Plan, PlanFault, PlanWords, StepFault, plan};
+use cargo_plans::{Plan, PlanFault, PlanWords, plan};
 use cargo_workspaces::Workspace;
+use feats_files::plan_messages::is_memory;
 use feats_words::Format;
-use plan_platforms::HeldSpecs;
+use plan_rows::platforms::HeldSpecs;
 use plan_whys::why_each;
-use wider_selections::widenings::Widening;
 use std::alloc::{AllocError, Global};
+use wider_selections::widenings::Widening;
 
 /// Returns the sections about `widening`, whose words are `words`, and the part of each of `tolds`.
 fn told_sections(
@@ -134,13 +135,6 @@ fn unplanned_sections<'p>(
     let message = message_of(alloc, workspace, fault)?;
     let answer = Answer::NotPlanned(message.as_str());
     same_sections(alloc, form, workspace, words, widening, parts, answer)
-}
-
-/// Returns whether `fault` is that an allocation failed.
-fn is_memory(fault: &PlanFault<'_>) -> bool
-    ensures { result ≡ is_memory fault.now }
-{
-    matches!(fault, PlanFault::Steps(StepFault::Memory))
 }
 
 /// Returns the sections about `widening`, whose words are `words`, and each of `parts`. It makes one plan, and one for each of the words

@@ -1,7 +1,7 @@
 -- The fault of a plan by that of its words.
 use Rattle.plan_words.specs.declared.fault.WordFault.{WordFault}
 use Rattle.plan_words.specs.declared.fault.WordFault.TheVariants as word
-use Rattle.plan_steps.specs.declared.fault.StepFault.TheVariants as step
+use Rattle.cargo_plans.specs.declared.plan_steps.fault.StepFault.TheVariants as step
 use Rattle.cargo_plans.specs.declared.fault.PlanFault.{PlanFault}
 use Rattle.cargo_plans.specs.declared.fault.PlanFault.TheVariants as fault
 

@@ -4,12 +4,12 @@ use Rattle.cargo_plans.specs.Plans.{AfterWords, WordsText}
 use Rattle.cargo_plans.specs.Refusals.{IsRefusal, is_memory}
 use Rattle.cargo_plans.specs.declared.fault.PlanFault.{PlanFault}
 use Rattle.cargo_workspaces.specs.Workspaces.{Text, WorkspaceText}
-use Rattle.plan_messages.specs.Messages.{plan_message}
+use Rattle.feats_files.specs.plan_messages.Messages.{plan_message}
 use Rattle.cargo_plans.specs.plan_steps.Plans.{PlanText}
 use Rattle.feats_check.specs.checking.Broken.{IsPolicyText, IsRulesRefusal}
 use Rattle.feats_check.specs.checking.Questions.{PrintedText, QuestionText}
 use Rattle.feats_check.specs.checking.Scenes.{AreWideScenes, SceneText, ScenesText, all_words, scene_of, widest_words}
-use Rattle.policy_checks.specs.declared.judged.Judged.TheVariants.{InBuild}
+use Rattle.policies.specs.declared.checks.judged.Judged.TheVariants.{InBuild}
 
 -- The rules are judged in this scene of the build; for every choice, denies are judged in those of wider words.
 pub record AreScenesOf (here : SceneText) (asked : QuestionText) (every : Option (Text → Bool)) (scenes : ScenesText) : Type 0 where

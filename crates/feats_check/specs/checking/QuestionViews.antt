@@ -1,7 +1,7 @@
 -- The values that Rust's types contain.
 use Rattle.std.specs.Prelude.{map, option_map}
 use Rattle.cargo_workspaces.specs.Views.{texts}
-use Rattle.plan_platforms.specs.HeldSpecs.{holds_on}
+use Rattle.plan_rows.specs.platforms.HeldSpecs.{holds_on}
 use Rattle.policies.specs.Views.{rule_text}
 use Rattle.feats_check.specs.checking.Questions.{PrintedText, QuestionText}
 use Rattle.feats_check.specs.declared.checking.question.PolicyQuestion.{PolicyQuestion}

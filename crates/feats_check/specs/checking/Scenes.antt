@@ -6,9 +6,9 @@ use Rattle.cargo_plans.specs.plan_steps.Plans.{PlanText}
 use Rattle.wider_selections.specs.widenings.Widenings.{widened}
 use Rattle.wider_selections.specs.declared.widenings.widening.Widening.TheVariants as widening
 use Rattle.policies.specs.Rules.{KindText, RuleText, deny, deny_duplicates, require}
-use Rattle.policy_checks.specs.Builds.{BuildText}
-use Rattle.policy_checks.specs.declared.judged.Judged.{Judged}
-use Rattle.policy_checks.specs.declared.judged.Judged.TheVariants.{ForEveryChoice, WithAll}
+use Rattle.policies.specs.checks.Builds.{BuildText}
+use Rattle.policies.specs.declared.checks.judged.Judged.{Judged}
+use Rattle.policies.specs.declared.checks.judged.Judged.TheVariants.{ForEveryChoice, WithAll}
 use Rattle.feats_check.specs.checking.Questions.{QuestionText}
 
 -- A build of a workspace, and the words of its plan.

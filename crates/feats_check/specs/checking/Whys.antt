@@ -10,7 +10,7 @@ use Rattle.plan_whys.specs.Steps.{WhyText}
 use Rattle.policies.specs.Rules.{RuleText}
 use Rattle.feats_check.specs.texts.Lines.{verdict_lines}
 use Rattle.feats_check.specs.texts.Objects.{rule_members}
-use Rattle.policy_checks.specs.declared.judged.Judged.{Judged}
+use Rattle.policies.specs.declared.checks.judged.Judged.{Judged}
 use Rattle.feats_check.specs.checking.Questions.{QuestionText}
 use Rattle.why_lines.specs.Lines.{why_lines}
 use Rattle.why_lines.specs.Objects.{step_objects}

@@ -4,8 +4,8 @@ use Rattle.std.specs.Fmt.{decimal}
 use Rattle.policies.specs.Lines.{Text}
 use Rattle.policies.specs.Rules.{KindText, RuleText, deny, deny_duplicates, require}
 use Rattle.shown_texts.specs.Shown.{escaped}
-use Rattle.policy_checks.specs.declared.judged.Judged.{Judged}
-use Rattle.policy_checks.specs.declared.judged.Judged.TheVariants.{ForEveryChoice, InBuild, WithAll}
+use Rattle.policies.specs.declared.checks.judged.Judged.{Judged}
+use Rattle.policies.specs.declared.checks.judged.Judged.TheVariants.{ForEveryChoice, InBuild, WithAll}
 
 -- The end of a rule for one platform.
 abbrev pub platform_end : Option Text → Text

@@ -9,8 +9,8 @@ use Rattle.policies.specs.Rules.{KindText, RuleText, deny, deny_duplicates, requ
 use Rattle.policies.specs.declared.fault.PolicyFault.{PolicyFault}
 use Rattle.policies.specs.declared.fault.PolicyFault.TheVariants as fault
 use Rattle.policies.specs.declared.problem.Problem.{Problem}
-use Rattle.policy_checks.specs.Builds.{BuildText}
-use Rattle.policy_checks.specs.Checks.{RefusalText, no_platform_in, out_of_memory, several_in}
+use Rattle.policies.specs.checks.Builds.{BuildText}
+use Rattle.policies.specs.checks.Checks.{RefusalText, no_platform_in, out_of_memory, several_in}
 use Rattle.feats_check.specs.texts.Lines.{place}
 use Rattle.shown_texts.specs.Shown.{escaped}
 

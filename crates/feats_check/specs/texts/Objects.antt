@@ -4,8 +4,8 @@ use Rattle.json.specs.Token.{Token, begin_object}
 use Rattle.line_parts.specs.Members.{number_member, object_line, optional_member, text_member}
 use Rattle.policies.specs.Lines.{Text}
 use Rattle.policies.specs.Rules.{KindText, RuleText, deny, deny_duplicates, require}
-use Rattle.policy_checks.specs.declared.judged.Judged.{Judged}
-use Rattle.policy_checks.specs.declared.judged.Judged.TheVariants.{ForEveryChoice, InBuild, WithAll}
+use Rattle.policies.specs.declared.checks.judged.Judged.{Judged}
+use Rattle.policies.specs.declared.checks.judged.Judged.TheVariants.{ForEveryChoice, InBuild, WithAll}
 
 -- The members of what a rule demands: its first word, the word that it is about, and its platform or null.
 abbrev pub kind_members : Text → Text → Option Text → List Token

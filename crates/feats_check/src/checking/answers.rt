@@ -4,7 +4,7 @@ ghost use Rattle.cargo_plans.specs.Plans.{IsPlanOf};
 ghost use Rattle.cargo_plans.specs.WordsView.{words_text};
 ghost use Rattle.cargo_workspaces.specs.WorkspaceView.{workspace_text};
 ghost use Rattle.feats_files.specs.Messages.{Says};
-ghost use Rattle.plan_platforms.specs.HeldSpecs.{holds_on};
+ghost use Rattle.plan_rows.specs.platforms.HeldSpecs.{holds_on};
 ghost use Rattle.cargo_plans.specs.plan_steps.PlanViews.{plan_text};
 ghost use Rattle.feats_check.specs.checking.Answers as spec;
 ghost use Rattle.feats_check.specs.checking.Broken.{IsPolicyText, IsRulesRefusal};
@@ -12,7 +12,7 @@ ghost use Rattle.feats_check.specs.checking.QuestionViews.{printed_text, questio
 ghost use Rattle.feats_check.specs.checking.Scenes.{IsScene, scene_of};
 ghost use Rattle.feats_check.specs.checking.inner.PlannedViews.{scene_by};
 ghost use Rattle.feats_check.specs.checking.inner.WidePlans.{AreWidePlans, scenes_with};
-ghost use Rattle.policy_checks.specs.declared.judged.Judged.TheVariants.{InBuild};
+ghost use Rattle.policies.specs.declared.checks.judged.Judged.TheVariants.{InBuild};
 
 use crate::checking::planned::{Planned, Wide, WidePlans, WideWords, wide_plans, wide_words};
 use crate::checking::question::{PolicyQuestion, PolicyText};
@@ -20,9 +20,9 @@ use crate::checking::rules::printed_rules;
 use cargo_plans::{Plan, PlanWords};
 use cargo_workspaces::Workspace;
 use feats_files::Fault;
-use plan_platforms::HeldSpecs;
+use plan_rows::platforms::HeldSpecs;
 use plan_words::choose;
-use policy_checks::Judged;
+use policies::checks::Judged;
 use std::alloc::Global;
 
 /// Returns the answer for every choice, by the plans of the wider `words`.

@@ -2,7 +2,7 @@
 ghost use Rattle.std.specs.Prelude.{◌≡◌, ◌++◌, IfOk, OnOk, flat_map, map};
 ghost use Rattle.cargo_plans.specs.WordsView.{words_text};
 ghost use Rattle.cargo_workspaces.specs.WorkspaceView.{workspace_text};
-ghost use Rattle.plan_platforms.specs.HeldSpecs.{holds_on};
+ghost use Rattle.plan_rows.specs.platforms.HeldSpecs.{holds_on};
 ghost use Rattle.plan_whys.specs.StepViews.{found_text, why_text};
 ghost use Rattle.policies.specs.Views.{rule_text};
 ghost use Rattle.feats_check.specs.checking.Whys as spec;
@@ -13,7 +13,7 @@ use crate::checking::settings::settings_of;
 use crate::texts::push_verdict;
 use cargo_plans::PlanWords;
 use cargo_workspaces::Workspace;
-use plan_platforms::HeldSpecs;
+use plan_rows::platforms::HeldSpecs;
 use plan_whys::WhyStep;
 use policies::Rule;
 use std::alloc::{AllocError, Global};

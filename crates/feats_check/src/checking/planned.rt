@@ -5,7 +5,7 @@ ghost use Rattle.cargo_plans.specs.WordsView.{words_text};
 ghost use Rattle.cargo_plans.specs.plan_steps.PlanViews.{plan_text};
 ghost use Rattle.cargo_workspaces.specs.WorkspaceView.{workspace_text};
 ghost use Rattle.feats_files.specs.Messages.{Says};
-ghost use Rattle.plan_platforms.specs.HeldSpecs.{holds_on};
+ghost use Rattle.plan_rows.specs.platforms.HeldSpecs.{holds_on};
 ghost use Rattle.feats_check.specs.checking.Answers.{IsUnplanned};
 ghost use Rattle.feats_check.specs.checking.Scenes as spec;
 ghost use Rattle.feats_check.specs.checking.inner.WidePlans.{AreWidePlans, IsNoWidePlan};
@@ -13,9 +13,9 @@ ghost use Rattle.feats_check.specs.checking.inner.WidePlans.{AreWidePlans, IsNoW
 use cargo_plans::{Plan, PlanFault, PlanWords, StepFault, plan};
 use cargo_workspaces::Workspace;
 use feats_files::Fault;
-use plan_messages::plan_refused;
-use plan_platforms::HeldSpecs;
-use policy_checks::Judged;
+use feats_files::plan_messages::plan_refused;
+use plan_rows::platforms::HeldSpecs;
+use policies::checks::Judged;
 use std::alloc::Global;
 use wider_selections::widenings::{Widening, widened};
 

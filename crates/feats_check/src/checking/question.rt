@@ -1,7 +1,7 @@
 //! Questions about policies, and their answers.
 
 use feats_words::Format;
-use plan_platforms::HeldSpecs;
+use plan_rows::platforms::HeldSpecs;
 use policies::Rule;
 
 /// A question about a policy, and the format of its answer.

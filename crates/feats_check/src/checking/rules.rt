@@ -15,8 +15,8 @@ use crate::checking::question::{PolicyQuestion, PolicyText};
 use crate::texts::check_refused;
 use cargo_workspaces::Workspace;
 use feats_files::Fault;
+use policies::checks::{Build, check};
 use policies::{Rule, RuleKind};
-use policy_checks::{Build, check};
 use std::alloc::{AllocError, Global};
 use std::slice;
 

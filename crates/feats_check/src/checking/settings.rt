@@ -1,12 +1,12 @@
 //! The settings of explanations.
 ghost use Rattle.std.specs.Prelude.{◌≡◌};
 ghost use Rattle.cargo_plans.specs.WordsView.{words_text};
-ghost use Rattle.plan_platforms.specs.HeldSpecs.{holds_on};
+ghost use Rattle.plan_rows.specs.platforms.HeldSpecs.{holds_on};
 ghost use Rattle.feats_check.specs.checking.Whys as spec;
 ghost use Rattle.why_lines.specs.Settings.{settings_text};
 
 use cargo_plans::PlanWords;
-use plan_platforms::HeldSpecs;
+use plan_rows::platforms::HeldSpecs;
 use why_lines::WhySettings;
 
 /// Returns the settings of the lines that explain a plan for `words`.

@@ -4,7 +4,7 @@ ghost use Rattle.std.specs.List.{list_any};
 ghost use Rattle.cargo_plans.specs.WordsView.{words_text};
 ghost use Rattle.cargo_workspaces.specs.WorkspaceView.{workspace_text};
 ghost use Rattle.feats_files.specs.Messages.{Says};
-ghost use Rattle.plan_platforms.specs.HeldSpecs.{holds_on};
+ghost use Rattle.plan_rows.specs.platforms.HeldSpecs.{holds_on};
 ghost use Rattle.policies.specs.Views.{kind_text, rule_text};
 ghost use Rattle.feats_check.specs.checking.Warnings as spec;
 ghost use Rattle.feats_check.specs.checking.WarningViews.{policy_words, string_texts};
@@ -15,10 +15,10 @@ use crate::texts::{build_message, unmatched_message, unmatched_refused};
 use cargo_plans::PlanWords;
 use cargo_workspaces::Workspace;
 use feats_files::Fault;
-use plan_platforms::HeldSpecs;
+use plan_rows::platforms::HeldSpecs;
 use plan_words::choose;
+use policies::checks::unmatched;
 use policies::{Rule, RuleKind};
-use policy_checks::unmatched;
 use std::alloc::{AllocError, Global};
 
 /// The policy that is checked.

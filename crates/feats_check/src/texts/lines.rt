@@ -5,7 +5,7 @@ ghost use Rattle.feats_check.specs.texts.Lines as spec;
 
 use crate::texts::words::{breach, push, push_kind, push_place, push_reason};
 use policies::Rule;
-use policy_checks::Judged;
+use policies::checks::Judged;
 use std::alloc::{AllocError, Global};
 
 /// Appends `byte`, after four spaces if a line starts with it and it doesn't end that line.

@@ -6,8 +6,8 @@ ghost use Rattle.feats_check.specs.texts.Objects as spec;
 
 use json::Writer;
 use line_parts::{begin_line, end_line, write_member, write_number, write_optional};
+use policies::checks::Judged;
 use policies::{Rule, RuleKind};
-use policy_checks::Judged;
 use std::alloc::AllocError;
 
 /// Writes the members of a rule that begins with `verb`, about `word` and for the platform `on`.

@@ -6,7 +6,7 @@ ghost use Rattle.policies.specs.Views.{kind_text};
 ghost use Rattle.feats_check.specs.texts.Lines as spec;
 
 use policies::RuleKind;
-use policy_checks::Judged;
+use policies::checks::Judged;
 use shown_texts::escaped;
 use std::alloc::{AllocError, Global};
 

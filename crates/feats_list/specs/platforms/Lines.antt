@@ -3,7 +3,7 @@ use Rattle.std.specs.Prelude.{◌≡◌, ℕ, List, [], ◌∷◌, ◌++◌, Boo
 use Rattle.std.specs.Fmt.{decimal}
 use Rattle.cargo_workspaces.specs.Workspaces.{Text}
 use Rattle.line_parts.specs.Tables.{RowText, table_of}
-use Rattle.plan_platforms.specs.DeclaredSpecs.{DeclaredText}
+use Rattle.plan_rows.specs.platforms.DeclaredSpecs.{DeclaredText}
 use Rattle.feats_list.specs.platforms.Lists.{AreListed, ListedText, PlaceText}
 
 -- The text of a number of declarations.

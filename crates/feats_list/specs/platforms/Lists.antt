@@ -4,7 +4,7 @@ use Rattle.std.specs.List.{list_any}
 use Rattle.std.specs.List.Sorted.{IsStrictlySortedBy}
 use Rattle.std.specs.Str.{bytes_eq}
 use Rattle.cargo_workspaces.specs.Workspaces.{Text, text_cmp}
-use Rattle.plan_platforms.specs.DeclaredSpecs.{DeclaredText}
+use Rattle.plan_rows.specs.platforms.DeclaredSpecs.{DeclaredText}
 
 -- A place: its name, and the test of the specs that hold there.
 pub record PlaceText : Type 0 where

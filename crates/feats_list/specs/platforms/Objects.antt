@@ -3,7 +3,7 @@ use Rattle.std.specs.Prelude.{◌≡◌, List, ◌∷◌, ◌++◌, flat_map, co
 use Rattle.json.specs.Token.{Token, begin_object}
 use Rattle.cargo_workspaces.specs.Workspaces.{Text}
 use Rattle.line_parts.specs.Members.{number_member, object_line, text_member, texts_member}
-use Rattle.plan_platforms.specs.DeclaredSpecs.{DeclaredText}
+use Rattle.plan_rows.specs.platforms.DeclaredSpecs.{DeclaredText}
 use Rattle.feats_list.specs.platforms.Lists.{AreListed, ListedText, PlaceText}
 
 abbrev pub members : ListedText → List Token

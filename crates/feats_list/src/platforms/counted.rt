@@ -1,12 +1,12 @@
 //! The specs that declarations name, and on how many declarations each is.
 ghost use Rattle.std.specs.Prelude.{◌≡◌, IfOk, map};
 ghost use Rattle.std.specs.BTreeMap.{IsOrdered};
-ghost use Rattle.plan_platforms.specs.Views.{declared_text};
+ghost use Rattle.plan_rows.specs.platforms.Views.{declared_text};
 ghost use Rattle.feats_list.specs.platforms.Lists.{specs_of};
 ghost use Rattle.feats_list.specs.platforms.inner.Counts.{AreCounted, HasCounts, counted_text, key_cmp, pair_text};
 
 use crate::platforms::counts::count;
-use plan_platforms::DeclaredSpec;
+use plan_rows::platforms::DeclaredSpec;
 use std::alloc::{AllocError, Global};
 use std::collections::BTreeMap;
 

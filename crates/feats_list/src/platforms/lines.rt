@@ -2,7 +2,7 @@
 ghost use Rattle.std.specs.Prelude.{◌≡◌, ◌++◌, IfOk, OnOk, map, flat_map, string_bytes};
 ghost use Rattle.cargo_workspaces.specs.Views.{texts};
 ghost use Rattle.line_parts.specs.Views.{row_text};
-ghost use Rattle.plan_platforms.specs.Views.{declared_text};
+ghost use Rattle.plan_rows.specs.platforms.Views.{declared_text};
 ghost use Rattle.feats_list.specs.platforms.Lines as spec;
 ghost use Rattle.feats_list.specs.platforms.Lines.{IsSpecLines};
 ghost use Rattle.feats_list.specs.platforms.Views.{place_text};
@@ -11,8 +11,8 @@ ghost use Rattle.feats_list.specs.platforms.inner.Listed.{listed_text};
 use crate::platforms::listed::{Listed, listed_specs};
 use crate::platforms::places::NamedPlatform;
 use line_parts::{Row, table_of};
-use plan_platforms::DeclaredSpec;
 use plan_rows::Platform;
+use plan_rows::platforms::DeclaredSpec;
 use std::alloc::{AllocError, Global};
 
 /// Returns the text of `count` declarations.

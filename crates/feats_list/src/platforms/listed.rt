@@ -1,6 +1,6 @@
 //! What a list shows of each spec.
 ghost use Rattle.std.specs.Prelude.{◌≡◌, IfOk, map};
-ghost use Rattle.plan_platforms.specs.Views.{declared_text};
+ghost use Rattle.plan_rows.specs.platforms.Views.{declared_text};
 ghost use Rattle.feats_list.specs.platforms.Lists.{AreListed, listed_of};
 ghost use Rattle.feats_list.specs.platforms.Views.{place_text};
 ghost use Rattle.feats_list.specs.platforms.inner.Counts.{counted_text};
@@ -8,8 +8,8 @@ ghost use Rattle.feats_list.specs.platforms.inner.Listed.{listed_text};
 
 use crate::platforms::counted::{Counted, counted_specs};
 use crate::platforms::places::{NamedPlatform, failing, holding};
-use plan_platforms::DeclaredSpec;
 use plan_rows::Platform;
+use plan_rows::platforms::DeclaredSpec;
 use std::alloc::{AllocError, Global};
 
 /// A spec, the number of declarations that name it, and the names of the places where it holds and where it doesn't.

@@ -6,7 +6,7 @@ use Rattle.cargo_workspaces.specs.declared.package.Kind.{Kind}
 use Rattle.cargo_workspaces.specs.declared.package.Kind.TheVariants as kind
 use Rattle.line_parts.specs.Members.{number_member, object_line, optional_member, text_member}
 use Rattle.feats_slim.specs.edits.Orders.{SlimText}
-use Rattle.workspace_edits.specs.Edits.{WithoutText, defaults, feature}
+use Rattle.cargo_manifests.specs.Edits.{WithoutText, defaults, feature}
 use Rattle.feats_slim.specs.answers.Shown.{ShownPlaceText, ShownText, all_shown, declared, inherited}
 
 abbrev pub kind_word : Kind → Text

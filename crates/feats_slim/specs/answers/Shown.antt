@@ -3,7 +3,7 @@ use Rattle.std.specs.Prelude.{ℕ, List, [], ◌∷◌, Option, Some, flat_map, 
 use Rattle.std.specs.Option.{option_map_or}
 use Rattle.cargo_workspaces.specs.Workspaces.{DeclarationText, PackageText, Text}
 use Rattle.feats_slim.specs.edits.Orders.{SlimText}
-use Rattle.workspace_edits.specs.Edits.{PlaceText, WithoutText, declaration_at, table_entry}
+use Rattle.cargo_manifests.specs.Edits.{PlaceText, WithoutText, declaration_at, table_entry}
 
 -- What an edit changes, as it is shown: a declaration of a package, or the entry of the table `[workspace.dependencies]` with a name.
 pub data ShownPlaceText : Type 0 where

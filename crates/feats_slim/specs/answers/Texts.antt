@@ -3,7 +3,7 @@ use Rattle.std.specs.Prelude.{◌≡◌, List}
 use Rattle.cargo_workspaces.specs.Workspaces.{Text, PackageText, WorkspaceText}
 use Rattle.feats_slim.specs.edits.cargo_plans.Plans.{WordsText}
 use Rattle.toml.specs.Data.{Data}
-use Rattle.inherited_dependencies.specs.Inheritances.{inheritance_in}
+use Rattle.cargo_manifests.specs.inherited.Inheritances.{inheritance_in}
 use Rattle.feats_words.specs.declared.command_arguments.Format.{Format}
 use Rattle.feats_words.specs.declared.command_arguments.Format.TheVariants as format
 use Rattle.feats_slim.specs.edits.Orders.{SlimText}

@@ -1,6 +1,6 @@
 -- The value that a line contains.
 use Rattle.cargo_workspaces.specs.Views.{declaration_text, package_text}
-use Rattle.workspace_edits.specs.EditViews.{without_text}
+use Rattle.cargo_manifests.specs.EditViews.{without_text}
 use Rattle.feats_slim.specs.answers.Shown.{ShownPlaceText, ShownText, declared, inherited}
 use Rattle.feats_slim.specs.declared.answers.shown.Shown.{Shown}
 use Rattle.feats_slim.specs.declared.answers.shown.ShownPlace.{ShownPlace}

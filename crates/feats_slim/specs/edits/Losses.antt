@@ -4,7 +4,7 @@ use Rattle.std.specs.List.{filter, list_any}
 use Rattle.std.specs.Str.{bytes_eq}
 use Rattle.cargo_workspaces.specs.Workspaces.{Text, FeatureText, PackageText}
 use Rattle.plan_starts.specs.Lists.{joined_from}
-use Rattle.plan_units.specs.Units.{UnitText}
+use Rattle.cargo_plans.specs.plan_units.Units.{UnitText}
 
 -- The features of package `p` in each of the places for which it is built: the host, and the target platforms.
 abbrev pub places_of : List UnitText → ℕ → List (List Text)

@@ -5,7 +5,7 @@ use Rattle.std.specs.List.{AllByRecursion}
 use Rattle.std.specs.List.Sorted.{IsPermutation, IsStable}
 use Rattle.std.specs.Ordering.{flip_args, is_lt, nat_cmp, on, then_cmp}
 use Rattle.std.specs.declared.cmp.Ordering.{Ordering}
-use Rattle.workspace_edits.specs.Edits.{EditText}
+use Rattle.cargo_manifests.specs.Edits.{EditText}
 
 -- An edit, and the numbers of packages and of features that fall away by it.
 pub record SlimText : Type 0 where

@@ -1,5 +1,5 @@
 -- The value that an edit with its numbers contains.
-use Rattle.workspace_edits.specs.EditViews.{edit_text}
+use Rattle.cargo_manifests.specs.EditViews.{edit_text}
 use Rattle.feats_slim.specs.edits.Orders.{SlimText}
 use Rattle.feats_slim.specs.declared.edits.lost.Slim.{Slim}
 

@@ -8,8 +8,8 @@ use Rattle.cargo_plans.specs.declared.fault.PlanFault.{PlanFault}
 use Rattle.feats_slim.specs.edits.Losses.{LossesText, losses_of}
 use Rattle.cargo_plans.specs.plan_steps.Plans.{PlanText}
 use Rattle.cargo_plans.specs.plan_units.Units.{UnitText}
-use Rattle.inherited_dependencies.specs.Inheritances.{InheritanceText}
-use Rattle.workspace_edits.specs.Edits.{EditText, edited_text, edits_of}
+use Rattle.cargo_manifests.specs.inherited.Inheritances.{InheritanceText}
+use Rattle.cargo_manifests.specs.Edits.{EditText, edited_text, edits_of}
 use Rattle.feats_slim.specs.edits.Orders.{IsInOrder, SlimText}
 
 -- As many packages and features as are lost.

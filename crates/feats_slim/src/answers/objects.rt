@@ -3,7 +3,7 @@ ghost use Rattle.std.specs.Prelude.{◌≡◌, ◌++◌, IfOk, OnOk, codes, map,
 ghost use Rattle.cargo_workspaces.specs.Views.{declaration_text, package_text};
 ghost use Rattle.line_parts.specs.Members.{Appends, text_member};
 ghost use Rattle.feats_slim.specs.edits.SlimViews.{slim_text};
-ghost use Rattle.workspace_edits.specs.EditViews.{without_text};
+ghost use Rattle.cargo_manifests.specs.EditViews.{without_text};
 ghost use Rattle.feats_slim.specs.answers.Objects as spec;
 ghost use Rattle.feats_slim.specs.answers.Views.{shown_place_text, shown_text};
 

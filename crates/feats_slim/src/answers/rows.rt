@@ -3,7 +3,7 @@ ghost use Rattle.std.specs.Prelude.{◌≡◌, ◌++◌, ◌-◌, IfOk, OnOk, co
 ghost use Rattle.std.specs.Fmt.{decimal};
 ghost use Rattle.cargo_workspaces.specs.Views.{declaration_text, package_text};
 ghost use Rattle.line_parts.specs.Views.{row_text};
-ghost use Rattle.workspace_edits.specs.EditViews.{without_text};
+ghost use Rattle.cargo_manifests.specs.EditViews.{without_text};
 ghost use Rattle.feats_slim.specs.answers.Lines as spec;
 ghost use Rattle.feats_slim.specs.answers.Views.{shown_text};
 

@@ -4,7 +4,7 @@ ghost use Rattle.cargo_workspaces.specs.Views.{declaration_text, package_text};
 ghost use Rattle.feats_slim.specs.edits.SlimViews.{slim_text};
 ghost use Rattle.feats_slim.specs.answers.Shown as spec;
 ghost use Rattle.feats_slim.specs.answers.Views.{shown_place_text, shown_text};
-ghost use Rattle.workspace_edits.specs.EditViews.{place_text};
+ghost use Rattle.cargo_manifests.specs.EditViews.{place_text};
 
 use crate::edits::{EditPlace, Slim, Without};
 use cargo_workspaces::{Declaration, Package};

@@ -1,16 +1,16 @@
 //! What one plan builds and another doesn't.
 ghost use Rattle.std.specs.Prelude.{◌≡◌, ◌++◌, ◌∷◌, [], List, IfOk, OnOk, if◌then◌else◌, map};
 ghost use Rattle.cargo_workspaces.specs.Views.{feature_text, package_text};
-ghost use Rattle.plan_units.specs.Units.{UnitText};
-ghost use Rattle.plan_units.specs.UnitViews.{unit_text};
+ghost use Rattle.cargo_plans.specs.plan_units.Units.{UnitText};
+ghost use Rattle.cargo_plans.specs.plan_units.UnitViews.{unit_text};
 ghost use Rattle.feats_slim.specs.edits.Losses as spec;
 ghost use Rattle.feats_slim.specs.edits.LossViews.{losses_text, lost_feature_text};
 ghost use Rattle.feats_slim.specs.edits.inner.Groups.{HasPlaces};
 
 use crate::edits::loss::{Losses, LostFeature};
 use crate::edits::places::{Places, is_built, is_on, places_by_package};
+use cargo_plans::plan_units::Unit;
 use cargo_workspaces::{Feature, Package};
-use plan_units::Unit;
 use std::alloc::{AllocError, Global};
 
 /// Returns whether `package` falls away.

@@ -1,6 +1,6 @@
 //! Edits with the numbers of packages and features that fall away by them.
 
-use workspace_edits::Edit;
+use cargo_manifests::Edit;
 
 /// An edit, and the numbers of packages and features that fall away by it.
 #[derive(Clone, Copy)]

@@ -3,13 +3,13 @@ ghost use Rattle.std.specs.Prelude.{◌≡◌, ◌++◌, ◌∷◌, [], ℕ, Lis
 ghost use Rattle.std.specs.List.{list_any};
 ghost use Rattle.std.specs.Str.{bytes_eq};
 ghost use Rattle.cargo_workspaces.specs.Views.{texts};
-ghost use Rattle.plan_units.specs.Units.{UnitText};
-ghost use Rattle.plan_units.specs.UnitViews.{unit_text};
+ghost use Rattle.cargo_plans.specs.plan_units.Units.{UnitText};
+ghost use Rattle.cargo_plans.specs.plan_units.UnitViews.{unit_text};
 ghost use Rattle.feats_slim.specs.edits.Losses as spec;
 ghost use Rattle.feats_slim.specs.edits.inner.Groups.{HasPlaces, group_at, lists_text};
 
 use crate::edits::groups::{add, group_of};
-use plan_units::Unit;
+use cargo_plans::plan_units::Unit;
 use std::alloc::{AllocError, Global};
 use std::collections::BTreeMap;
 

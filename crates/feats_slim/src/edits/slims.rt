@@ -3,7 +3,7 @@ ghost use Rattle.std.specs.Prelude.{◌≡◌, ◌++◌, ◌∷◌, [], Err, IfE
 ghost use Rattle.std.specs.List.{filter, list_any};
 ghost use Rattle.cargo_workspaces.specs.WorkspaceView.{workspace_text};
 ghost use Rattle.cargo_plans.specs.WordsView.{words_text};
-ghost use Rattle.inherited_dependencies.specs.InheritanceView.{inheritance_text};
+ghost use Rattle.cargo_manifests.specs.inherited.InheritanceView.{inheritance_text};
 ghost use Rattle.cargo_plans.specs.plan_steps.PlanViews.{plan_text};
 ghost use Rattle.cargo_plans.specs.plan_units.UnitViews.{unit_text};
 ghost use Rattle.plan_words.specs.Choices.{choose as chosen_by};
@@ -17,12 +17,12 @@ ghost use Rattle.feats_slim.specs.edits.SlimViews.{slim_text};
 use crate::edits::lost::Slim;
 use crate::edits::orders::sort_slims;
 use crate::edits::trials::all_tried;
+use cargo_manifests::{Inheritance, edits_of};
 use cargo_plans::{Plan, PlanWords, Unit, WordFault};
 use cargo_workspaces::Workspace;
 use plan_rows::Platform;
 use plan_words::choose;
 use std::alloc::{AllocError, Global};
-use workspace_edits::{Inheritance, edits_of};
 
 /// Returns whether `member` is one of `selected`.
 fn is_selected(selected: &[usize], member: usize) -> bool

@@ -6,18 +6,18 @@ ghost use Rattle.cargo_plans.specs.WordsView.{words_text};
 ghost use Rattle.feats_slim.specs.edits.Losses.{losses_of as losses_by};
 ghost use Rattle.cargo_plans.specs.plan_steps.PlanViews.{plan_text};
 ghost use Rattle.cargo_plans.specs.plan_units.UnitViews.{unit_text};
-ghost use Rattle.inherited_dependencies.specs.InheritanceView.{inheritance_text};
-ghost use Rattle.workspace_edits.specs.EditViews.{edit_text};
+ghost use Rattle.cargo_manifests.specs.inherited.InheritanceView.{inheritance_text};
+ghost use Rattle.cargo_manifests.specs.EditViews.{edit_text};
 ghost use Rattle.feats_slim.specs.edits.Slims.{AreTried, HasNumbersOf, IsTried, IsTriedIn, nothing};
 ghost use Rattle.feats_slim.specs.edits.SlimViews.{slim_text};
 
 use crate::edits::losses::losses_of;
 use crate::edits::lost::Slim;
+use cargo_manifests::{Edit, Inheritance, edited};
 use cargo_plans::{Plan, PlanFault, PlanWords, StepFault, Unit, plan};
 use cargo_workspaces::{Package, Workspace};
 use plan_rows::Platform;
 use std::alloc::{AllocError, Global};
-use workspace_edits::{Edit, Inheritance, edited};
 
 /// Returns `edit` with the numbers of what falls away from the units `before` to the units `after`.
 fn counted<'v>(

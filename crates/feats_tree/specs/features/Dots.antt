@@ -2,10 +2,10 @@
 use Rattle.std.specs.Prelude.{◌≡◌, ℕ, List, [], ◌∷◌, map, Bool, codes, if◌then◌else◌}
 use Rattle.std.specs.List.{zip}
 use Rattle.cargo_workspaces.specs.Workspaces.{Text, PackageText}
-use Rattle.plan_dots.specs.Dots.{NodeText, dot_text}
-use Rattle.plan_links.specs.SpotLinks.{AreSpotLinks, AreSpotsOn, is_command}
+use Rattle.feats_tree.specs.dots.Dots.{NodeText, dot_text}
+use Rattle.plan_whys.specs.links.SpotLinks.{AreSpotLinks, AreSpotsOn, is_command}
 use Rattle.plan_rows.specs.Steps.{is_host}
-use Rattle.plan_steps.specs.Plans.{PlanText}
+use Rattle.cargo_plans.specs.plan_steps.Plans.{PlanText}
 use Rattle.plan_whys.specs.Steps.{SpotText}
 use Rattle.feats_tree.specs.features.Links.{shown_links}
 use Rattle.feats_tree.specs.features.Titles.{labels_of}

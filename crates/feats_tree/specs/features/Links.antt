@@ -1,7 +1,7 @@
 -- The links between spots that are shown.
 use Rattle.std.specs.Prelude.{ℕ, List, filter, Bool, false, not, ◌&&◌, slice_get}
 use Rattle.std.specs.Option.{option_map_or}
-use Rattle.plan_links.specs.SpotLinks.{is_command}
+use Rattle.plan_whys.specs.links.SpotLinks.{is_command}
 use Rattle.plan_whys.specs.Steps.{SpotText}
 
 -- Whether spot `k` is a command feature.

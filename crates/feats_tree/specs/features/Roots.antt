@@ -3,10 +3,10 @@ use Rattle.std.specs.Prelude.{ℕ, ◌==◌, List, [], ◌∷◌, Bool, not, ◌
 use Rattle.std.specs.Bool.{beq}
 use Rattle.std.specs.List.{list_any}
 use Rattle.feature_labels.specs.Orders.{label_eq}
-use Rattle.plan_links.specs.Links.{indexes_of}
-use Rattle.plan_links.specs.SpotLinks.{is_command}
+use Rattle.plan_whys.specs.links.Links.{indexes_of}
+use Rattle.plan_whys.specs.links.SpotLinks.{is_command}
 use Rattle.plan_rows.specs.Steps.{is_host}
-use Rattle.plan_steps.specs.plan_starts.Lists.{joined_from}
+use Rattle.cargo_plans.specs.plan_starts.Lists.{joined_from}
 use Rattle.plan_whys.specs.Steps.{SpotText}
 use Rattle.feats_tree.specs.features.Links.{is_command_at}
 

@@ -1,7 +1,7 @@
 -- The titles of spots.
 use Rattle.std.specs.Prelude.{List, map, Bool}
 use Rattle.cargo_workspaces.specs.Workspaces.{Text, PackageText}
-use Rattle.link_trees.specs.Titles.{TitleText}
+use Rattle.feats_tree.specs.trees.Titles.{TitleText}
 use Rattle.feats_tree.specs.packages.Titles.{id_at, titles_with}
 use Rattle.plan_whys.specs.Steps.{SpotText}
 use Rattle.why_lines.specs.Labels.{spot_label}

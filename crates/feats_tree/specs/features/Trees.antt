@@ -2,8 +2,8 @@
 use Rattle.std.specs.Prelude.{ℕ, List, Bool, Option}
 use Rattle.cargo_workspaces.specs.Workspaces.{Text, PackageText}
 use Rattle.feats_words.specs.declared.command_arguments.Format.{Format}
-use Rattle.plan_links.specs.SpotLinks.{AreSpotLinks, AreSpotsOn}
-use Rattle.plan_steps.specs.Plans.{PlanText}
+use Rattle.plan_whys.specs.links.SpotLinks.{AreSpotLinks, AreSpotsOn}
+use Rattle.cargo_plans.specs.plan_steps.Plans.{PlanText}
 use Rattle.feats_tree.specs.packages.Trees.{AreTurned, IsTreeText}
 use Rattle.plan_whys.specs.Steps.{SpotText}
 use Rattle.feats_tree.specs.features.Links.{shown_links}

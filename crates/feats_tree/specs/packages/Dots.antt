@@ -2,12 +2,12 @@
 use Rattle.std.specs.Prelude.{◌≡◌, ℕ, List, [], ◌∷◌, ◌++◌, map, length, codes}
 use Rattle.std.specs.List.{zip}
 use Rattle.cargo_workspaces.specs.Workspaces.{Text, PackageText}
-use Rattle.plan_dots.specs.Dots.{NodeText, dot_text}
-use Rattle.plan_links.specs.UnitLinks.{AreUnitLinks}
-use Rattle.plan_steps.specs.Plans.{PlanText}
-use Rattle.plan_steps.specs.plan_units.Units.{UnitText}
-use Rattle.plan_steps.specs.plan_units.declared.unit.Place.{Place}
-use Rattle.plan_steps.specs.plan_units.declared.unit.Place.TheVariants as place
+use Rattle.feats_tree.specs.dots.Dots.{NodeText, dot_text}
+use Rattle.plan_whys.specs.links.UnitLinks.{AreUnitLinks}
+use Rattle.cargo_plans.specs.plan_steps.Plans.{PlanText}
+use Rattle.cargo_plans.specs.plan_units.Units.{UnitText}
+use Rattle.cargo_plans.specs.declared.plan_units.unit.Place.{Place}
+use Rattle.cargo_plans.specs.declared.plan_units.unit.Place.TheVariants as place
 use Rattle.feats_tree.specs.packages.Titles.{unit_title}
 
 -- The cluster of a place: the target platforms, of which there are `count`, are followed by the host.

@@ -3,11 +3,11 @@ use Rattle.std.specs.Prelude.{ℕ, List, [], ◌++◌, map, length, Option, None
 use Rattle.std.specs.List.{zip}
 use Rattle.std.specs.Option.{option_map_or}
 use Rattle.cargo_workspaces.specs.Workspaces.{Text, PackageText}
-use Rattle.link_trees.specs.Titles.{TitleText}
+use Rattle.feats_tree.specs.trees.Titles.{TitleText}
 use Rattle.plan_lines.specs.Lines.{label_of, name_of}
-use Rattle.plan_steps.specs.plan_units.Units.{UnitText}
-use Rattle.plan_steps.specs.plan_units.declared.unit.Place.{Place}
-use Rattle.plan_steps.specs.plan_units.declared.unit.Place.TheVariants as place
+use Rattle.cargo_plans.specs.plan_units.Units.{UnitText}
+use Rattle.cargo_plans.specs.declared.plan_units.unit.Place.{Place}
+use Rattle.cargo_plans.specs.declared.plan_units.unit.Place.TheVariants as place
 
 -- A text in parentheses, after a space.
 abbrev pub in_parentheses : Text → Text

@@ -3,16 +3,16 @@ use Rattle.std.specs.Prelude.{◌≡◌, ◌==◌, ℕ, List, Option, AllPairs, 
 use Rattle.cargo_workspaces.specs.Workspaces.{Text, PackageText}
 use Rattle.feats_words.specs.declared.command_arguments.Format.{Format}
 use Rattle.feats_words.specs.declared.command_arguments.Format.TheVariants as format
-use Rattle.link_trees.specs.Branches.{AreBranches}
-use Rattle.link_trees.specs.Lines.{branch_lines}
-use Rattle.link_trees.specs.Objects.{branch_objects}
-use Rattle.link_trees.specs.Reversals.{IsNoLater, turned}
-use Rattle.link_trees.specs.Titles.{TitleText}
-use Rattle.link_trees.specs.declared.trees.Branch.{Branch}
-use Rattle.plan_links.specs.Links.{indexes_of}
-use Rattle.plan_links.specs.UnitLinks.{AreUnitLinks, root_units}
-use Rattle.plan_steps.specs.Plans.{PlanText}
-use Rattle.plan_steps.specs.plan_units.Units.{UnitText}
+use Rattle.feats_tree.specs.trees.Branches.{AreBranches}
+use Rattle.feats_tree.specs.trees.Lines.{branch_lines}
+use Rattle.feats_tree.specs.trees.Objects.{branch_objects}
+use Rattle.feats_tree.specs.trees.Reversals.{IsNoLater, turned}
+use Rattle.feats_tree.specs.trees.Titles.{TitleText}
+use Rattle.feats_tree.specs.declared.trees.trees.Branch.{Branch}
+use Rattle.plan_whys.specs.links.Links.{indexes_of}
+use Rattle.plan_whys.specs.links.UnitLinks.{AreUnitLinks, root_units}
+use Rattle.cargo_plans.specs.plan_steps.Plans.{PlanText}
+use Rattle.cargo_plans.specs.plan_units.Units.{UnitText}
 use Rattle.feats_tree.specs.packages.Titles.{unit_titles}
 
 abbrev pub branches_text : Format → List TitleText → List Branch → Text

@@ -1,12 +1,12 @@
 //! Command features: what the command line asks of packages.
 ghost use Rattle.std.specs.Prelude.{◌≡◌, map};
 ghost use Rattle.feature_labels.specs.Names.{label_of};
-ghost use Rattle.plan_links.specs.SpotLinks as spec;
+ghost use Rattle.plan_whys.specs.links.SpotLinks as spec;
 ghost use Rattle.plan_whys.specs.StepViews.{spot_text};
 ghost use Rattle.feats_tree.specs.features.Links.{is_command_at};
 
 use feature_labels::FeatureLabel;
-use plan_links::Spot;
+use plan_whys::links::Spot;
 
 /// Returns whether `label` is that of a command feature.
 pub(crate) fn is_command(label: FeatureLabel<'_>) -> bool

@@ -1,17 +1,17 @@
 //! The graph of the features that are on in a plan.
 ghost use Rattle.std.specs.Prelude.{◌≡◌, IfOk, map, string_bytes};
 ghost use Rattle.cargo_workspaces.specs.WorkspaceView.{workspace_text};
-ghost use Rattle.plan_dots.specs.Views.{node_text};
-ghost use Rattle.plan_steps.specs.PlanViews.{plan_text};
+ghost use Rattle.feats_tree.specs.dots.Views.{node_text};
+ghost use Rattle.cargo_plans.specs.plan_steps.PlanViews.{plan_text};
 ghost use Rattle.plan_whys.specs.StepViews.{spot_text};
 ghost use Rattle.feats_tree.specs.features.Dots as spec;
 
+use crate::dots::{DotNode, dot_text};
 use crate::features::commands::is_command;
 use crate::features::links::shown_links;
+use cargo_plans::plan_steps::Plan;
 use cargo_workspaces::Workspace;
-use plan_dots::{DotNode, dot_text};
-use plan_links::{Side, Spot, on_spots, spot_links};
-use plan_steps::Plan;
+use plan_whys::links::{Side, Spot, on_spots, spot_links};
 use std::alloc::{AllocError, Global};
 use why_lines::spot_labels;
 

@@ -8,28 +8,18 @@ ghost use Rattle.feats_tree.specs.features.inner.Keys as spec;
 ghost use Rattle.feats_tree.specs.features.inner.Keys.{HasSpots, has_key};
 
 use feature_labels::FeatureLabel;
-use plan_links::{Side, Spot};
+use plan_whys::links::Spot;
 use std::alloc::{AllocError, Global};
 use std::collections::BTreeSet;
 
 /// What a set of spots has of a spot: the package's number, whether the side is the host, and the label.
 pub(crate) type SpotKey<'w> = (usize, bool, FeatureLabel<'w>);
 
-/// Returns whether `side` is the host.
-fn is_host(side: Side) -> bool
-    ensures { result ≡ steps.is_host side }
-{
-    match side {
-        Side::Target => false,
-        Side::Host => true,
-    }
-}
-
 /// Returns the key of `spot`.
 fn key_of<'w>(spot: Spot<'w>) -> SpotKey<'w>
     ensures { result ≡ spec.key_of spot.entry }
 {
-    (spot.package, is_host(spot.side), spot.label)
+    (spot.package, spot.side.is_host(), spot.label)
 }
 
 /// Inserts the key of `spot` into `keys`.

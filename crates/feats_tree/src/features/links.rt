@@ -4,7 +4,7 @@ ghost use Rattle.plan_whys.specs.StepViews.{spot_text};
 ghost use Rattle.feats_tree.specs.features.Links as spec;
 
 use crate::features::commands::is_command_at;
-use plan_links::Spot;
+use plan_whys::links::Spot;
 use std::alloc::{AllocError, Global};
 
 /// Returns whether `link` is shown.

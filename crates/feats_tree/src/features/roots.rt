@@ -1,8 +1,8 @@
 //! The roots of trees.
 ghost use Rattle.std.specs.Prelude.{◌≡◌, ◌++◌, ◌∷◌, ◌||◌, ◌&&◌, ◌<◌, [], ℕ, IfOk, OnOk, if◌then◌else◌, length, map, not};
 ghost use Rattle.digraphs.specs.Bits.{has};
-ghost use Rattle.plan_links.specs.Links.{indexes_of};
-ghost use Rattle.plan_links.specs.SpotLinks as links;
+ghost use Rattle.plan_whys.specs.links.Links.{indexes_of};
+ghost use Rattle.plan_whys.specs.links.SpotLinks as links;
 ghost use Rattle.plan_whys.specs.StepViews.{spot_text};
 ghost use Rattle.feats_tree.specs.features.Roots as spec;
 ghost use Rattle.feats_tree.specs.features.Roots.{numbers_in};
@@ -11,7 +11,7 @@ ghost use Rattle.feats_tree.specs.features.inner.Keys.{has_key};
 use crate::features::commands::{is_command, is_command_at};
 use crate::features::keys::{SpotKey, has_spot, keys_of};
 use digraphs::IxBitSet;
-use plan_links::Spot;
+use plan_whys::links::Spot;
 use std::alloc::{AllocError, Global};
 use std::collections::BTreeSet;
 

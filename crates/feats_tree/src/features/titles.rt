@@ -10,7 +10,7 @@ ghost use Rattle.feats_tree.specs.features.Titles as spec;
 use crate::packages::{id_at, titled_text};
 use cargo_workspaces::{Package, Workspace};
 use feats_words::Format;
-use plan_links::Spot;
+use plan_whys::links::Spot;
 use std::alloc::{AllocError, Global};
 use why_lines::spot_labels;
 

@@ -1,7 +1,7 @@
 //! Trees of the features that are on in a plan.
 ghost use Rattle.std.specs.Prelude.{◌≡◌, IfOk, map};
 ghost use Rattle.cargo_workspaces.specs.WorkspaceView.{workspace_text};
-ghost use Rattle.plan_steps.specs.PlanViews.{plan_text};
+ghost use Rattle.cargo_plans.specs.plan_steps.PlanViews.{plan_text};
 ghost use Rattle.feats_tree.specs.packages.Trees.{IsTreeText};
 ghost use Rattle.plan_whys.specs.StepViews.{spot_text};
 ghost use Rattle.feats_tree.specs.features.Links.{shown_links as links_shown};
@@ -12,11 +12,11 @@ ghost use Rattle.feats_tree.specs.features.Trees as spec;
 use crate::features::links::shown_links;
 use crate::features::roots::{asked_spots, wanted_spots};
 use crate::features::titles::{Titled, spot_tree};
+use crate::trees::reversed;
+use cargo_plans::plan_steps::Plan;
 use cargo_workspaces::Workspace;
 use feats_words::Format;
-use link_trees::reversed;
-use plan_links::{Spot, on_spots, spot_links};
-use plan_steps::Plan;
+use plan_whys::links::{Spot, on_spots, spot_links};
 use std::alloc::{AllocError, Global};
 
 /// Returns the text of the trees of what the command line turns on, by all `links` between the spots.

@@ -2,16 +2,16 @@
 ghost use Rattle.std.specs.Prelude.{◌≡◌, ◌∷◌, IfOk, map, string_bytes};
 ghost use Rattle.cargo_workspaces.specs.Views.{texts};
 ghost use Rattle.cargo_workspaces.specs.WorkspaceView.{workspace_text};
-ghost use Rattle.plan_dots.specs.Views.{node_text};
-ghost use Rattle.plan_steps.specs.PlanViews.{plan_text};
-ghost use Rattle.plan_steps.specs.plan_units.UnitViews.{unit_text};
+ghost use Rattle.feats_tree.specs.dots.Views.{node_text};
+ghost use Rattle.cargo_plans.specs.plan_steps.PlanViews.{plan_text};
+ghost use Rattle.cargo_plans.specs.plan_units.UnitViews.{unit_text};
 ghost use Rattle.feats_tree.specs.packages.Dots as spec;
 
+use crate::dots::{DotNode, dot_text};
 use crate::packages::titles::titles_of;
+use cargo_plans::plan_steps::{Place, Plan, Unit};
 use cargo_workspaces::Workspace;
-use plan_dots::{DotNode, dot_text};
-use plan_links::unit_links;
-use plan_steps::{Place, Plan, Unit};
+use plan_whys::links::unit_links;
 use std::alloc::{AllocError, Global};
 
 /// Returns the number of the cluster of `place`, where there are `count` target platforms.

@@ -1,13 +1,13 @@
 //! The ids of the packages that a plan builds.
 ghost use Rattle.std.specs.Prelude.{◌≡◌, IfOk, map, string_bytes};
 ghost use Rattle.cargo_workspaces.specs.Views.{package_text, texts};
-ghost use Rattle.link_trees.specs.Titles.{title_text};
-ghost use Rattle.plan_steps.specs.plan_units.UnitViews.{unit_text};
+ghost use Rattle.feats_tree.specs.trees.Titles.{title_text};
+ghost use Rattle.cargo_plans.specs.plan_units.UnitViews.{unit_text};
 ghost use Rattle.feats_tree.specs.packages.Titles as spec;
 
+use crate::trees::Title;
+use cargo_plans::plan_steps::Unit;
 use cargo_workspaces::Package;
-use link_trees::Title;
-use plan_steps::Unit;
 use std::alloc::{AllocError, Global};
 
 /// Returns the id of package `ix`; nothing, if there is no such package.

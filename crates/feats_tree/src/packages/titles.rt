@@ -3,12 +3,12 @@ ghost use Rattle.std.specs.Prelude.{◌≡◌, ◌++◌, IfOk, OnOk, map, option
 ghost use Rattle.cargo_workspaces.specs.Views.{package_text, texts};
 ghost use Rattle.plan_lines.specs.Lines.{name_of};
 ghost use Rattle.plan_lines.specs.Repeats.{HasRepeated};
-ghost use Rattle.plan_steps.specs.plan_units.UnitViews.{unit_text};
+ghost use Rattle.cargo_plans.specs.plan_units.UnitViews.{unit_text};
 ghost use Rattle.feats_tree.specs.packages.Titles as spec;
 
+use cargo_plans::plan_steps::{Place, Unit};
 use cargo_workspaces::Package;
 use plan_lines::{label_of, names_of, repeated_in};
-use plan_steps::{Place, Unit};
 use std::alloc::{AllocError, Global};
 use std::collections::BTreeSet;
 

@@ -1,18 +1,18 @@
 //! The text of trees.
 ghost use Rattle.std.specs.Prelude.{◌≡◌, IfOk, map, string_bytes};
 ghost use Rattle.cargo_workspaces.specs.Views.{package_text, texts};
-ghost use Rattle.link_trees.specs.Branches.{AreTrees};
-ghost use Rattle.link_trees.specs.Titles.{title_text};
-ghost use Rattle.plan_steps.specs.plan_units.UnitViews.{unit_text};
+ghost use Rattle.feats_tree.specs.trees.Branches.{AreTrees};
+ghost use Rattle.feats_tree.specs.trees.Titles.{title_text};
+ghost use Rattle.cargo_plans.specs.plan_units.UnitViews.{unit_text};
 ghost use Rattle.feats_tree.specs.packages.Titles.{titles_with as titles_by, unit_titles};
 ghost use Rattle.feats_tree.specs.packages.Trees as spec;
 
 use crate::packages::ids::{ids_of, titles_with};
 use crate::packages::titles::titles_of;
+use crate::trees::{Branch, Title, branch_lines, branch_objects, branches};
+use cargo_plans::plan_steps::Unit;
 use cargo_workspaces::Package;
 use feats_words::Format;
-use link_trees::{Branch, Title, branch_lines, branch_objects, branches};
-use plan_steps::Unit;
 use std::alloc::{AllocError, Global};
 
 /// Returns the text of `branches`.

@@ -2,16 +2,16 @@
 ghost use Rattle.std.specs.Prelude.{◌≡◌, ◌++◌, ◌∷◌, [], ◌==◌, IfOk, OnOk, map, if◌then◌else◌};
 ghost use Rattle.cargo_workspaces.specs.Views.{package_text, texts};
 ghost use Rattle.cargo_workspaces.specs.WorkspaceView.{workspace_text};
-ghost use Rattle.plan_steps.specs.PlanViews.{plan_text};
-ghost use Rattle.plan_steps.specs.plan_units.UnitViews.{unit_text};
+ghost use Rattle.cargo_plans.specs.plan_steps.PlanViews.{plan_text};
+ghost use Rattle.cargo_plans.specs.plan_units.UnitViews.{unit_text};
 ghost use Rattle.feats_tree.specs.packages.Trees as spec;
 
 use crate::packages::tree_texts::{UnitTitles, unit_tree};
+use crate::trees::reversed;
+use cargo_plans::plan_steps::{Plan, Unit};
 use cargo_workspaces::Workspace;
 use feats_words::Format;
-use link_trees::reversed;
-use plan_links::{root_units, unit_links};
-use plan_steps::{Plan, Unit};
+use plan_whys::links::{root_units, unit_links};
 use std::alloc::{AllocError, Global};
 
 /// Returns what is shown of the units of `plan`.

@@ -1,7 +1,7 @@
 -- The answers to calls over the rows of a row file.
 use Rattle.std.specs.Prelude.{◌≡◌, ◌⊎◌, ℕ, List, ◌++◌, Option, None, Some, Result, Ok, Err, length}
-use Rattle.binary_records.specs.Records.{number, written}
-use Rattle.binary_records.specs.Words.{words}
+use Rattle.graph_answers.specs.binary.Records.{number, written}
+use Rattle.graph_answers.specs.binary.Words.{words}
 use Rattle.guppy_packages.specs.Rows.{Text}
 use Rattle.guppy_packages.specs.Tables.{Tables}
 use Rattle.guppy_packages.specs.declared.row_error.RowFault.{RowFault}
@@ -10,7 +10,7 @@ use Rattle.row_files.specs.RowFile.{tables_in}
 use Rattle.row_files.specs.declared.error.RowFileError.{RowFileError}
 use Rattle.row_files.specs.declared.error.RowFileError.TheVariants as error
 use Rattle.feature_core.specs.Built.{Built, IsBuilt}
-use Rattle.graph_records.specs.Descriptions.{Describes}
+use Rattle.graph_answers.specs.records.Descriptions.{Describes}
 use Rattle.graph_answers.specs.requests.Answers.{Answers, Has, broken}
 use Rattle.graph_answers.specs.requests.Contents.{Walked, Reached, Ordered, Roots, Linked, Cyclic, Checked}
 use Rattle.graph_answers.specs.requests.Requests.{walk_in, view_in, check_in}

@@ -1,6 +1,6 @@
 -- Answers: a status, and the content if there is one.
 use Rattle.std.specs.Prelude.{◌≡◌, List, ℕ, ◌++◌, Option, None, Some}
-use Rattle.binary_records.specs.Records.{number}
+use Rattle.graph_answers.specs.binary.Records.{number}
 
 -- The answer with this content.
 abbrev pub answer_with : List ℕ → List ℕ

@@ -1,6 +1,6 @@
 -- The contents of answers over a feature graph.
 use Rattle.std.specs.Prelude.{◌≡◌, ◌↔◌, ℕ, List, ◌++◌, Bool, IsTrue, length}
-use Rattle.binary_records.specs.Records.{number, flag, list}
+use Rattle.graph_answers.specs.binary.Records.{number, flag, list}
 use Rattle.digraphs.specs.Bits.{has, members}
 use Rattle.digraph_orders.specs.Sequences.{Sequence, IsOrderOf}
 use Rattle.guppy_support.specs.Views.{in_order, links_in_order, roots_in_order}

@@ -9,7 +9,7 @@ use Rattle.walk_engine.specs.declared.walks.Half.TheVariants.{Full, Required, Op
 use Rattle.walk_engine.specs.declared.walks.Step.{Step}
 use Rattle.walk_engine.specs.declared.walks.StepReason.{StepReason}
 use Rattle.walk_engine.specs.declared.walks.StepReason.TheVariants.{Initial, Edge, Offer}
-use Rattle.binary_records.specs.Words.{counted}
+use Rattle.graph_answers.specs.binary.Words.{counted}
 
 -- 0 is forward, and 1 is reverse.
 abbrev pub direction_in : ℕ → Option DependencyDirection

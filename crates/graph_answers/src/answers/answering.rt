@@ -1,16 +1,16 @@
 //! From rows and a request to the answer.
 ghost use Rattle.std.specs.Prelude.{◌≡◌, ◌⊎◌, IfOk};
 ghost use Rattle.feature_core.specs.Built.{IsBuilt};
-ghost use Rattle.graph_records.specs.Descriptions.{Describes};
+ghost use Rattle.graph_answers.specs.records.Descriptions.{Describes};
 ghost use Rattle.graph_answers.specs.requests.Answers.{Has};
 ghost use Rattle.graph_answers.specs.answers.Answers as spec;
 
 use crate::answers::call::Call;
 use crate::answers::faults::fault_answer;
+use crate::binary::{words, write_answer};
+use crate::records::push_description;
 use crate::requests::{broken, check, cycles, links, order, reach, resolve, roots, status};
-use binary_records::{words, write_answer};
 use feature_core::FeatureGraphData;
-use graph_records::push_description;
 use guppy_packages::PackageGraph;
 use row_files::{RowFileError, graph_of};
 use std::alloc::{AllocError, Global};

@@ -1,9 +1,9 @@
 //! The answers to rows with a fault.
 ghost use Rattle.std.specs.Prelude.{◌≡◌, ◌++◌, IfOk, OnOk};
-ghost use Rattle.binary_records.specs.Records.{number};
+ghost use Rattle.graph_answers.specs.binary.Records.{number};
 ghost use Rattle.graph_answers.specs.answers.Answers as spec;
 
-use binary_records::push_number;
+use crate::binary::push_number;
 use guppy_packages::RowFault;
 use row_files::RowFileError;
 use std::alloc::{AllocError, Global};

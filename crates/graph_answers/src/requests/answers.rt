@@ -1,9 +1,9 @@
 //! Answers: a status, and the content if there is one.
 ghost use Rattle.std.specs.Prelude.{◌≡◌, IfOk};
-ghost use Rattle.binary_records.specs.Records.{list, number};
+ghost use Rattle.graph_answers.specs.binary.Records.{list, number};
 ghost use Rattle.graph_answers.specs.requests.Answers as spec;
 
-use binary_records::{Numbers, push_list, push_number};
+use crate::binary::{Numbers, push_list, push_number};
 use std::alloc::{AllocError, Global};
 
 /// Returns the status of an answer with a content.

@@ -1,16 +1,16 @@
 //! Checks of explanations.
 ghost use Rattle.std.specs.Prelude.{◌≡◌, IfOk, IfSome, IsTrue, length};
 ghost use Rattle.std.specs.Option.{option_map};
-ghost use Rattle.binary_records.specs.Records.{flag};
+ghost use Rattle.graph_answers.specs.binary.Records.{flag};
 ghost use Rattle.graph_answers.specs.requests.Answers.{Answers, Has, answer_with};
 ghost use Rattle.graph_answers.specs.requests.Contents.{Checked};
 ghost use Rattle.graph_answers.specs.requests.Requests as spec;
 
+use crate::binary::push_flag;
 use crate::requests::answers::{broken, status};
 use crate::requests::requests::start_in;
 use crate::requests::sets::set_of;
 use crate::requests::steps::{offers_in, steps_in};
-use binary_records::push_flag;
 use feature_core::{FeatureGraphData, check_exact_steps};
 use guppy_packages::DependencyDirection;
 use std::alloc::{AllocError, Global};

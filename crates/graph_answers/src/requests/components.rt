@@ -1,12 +1,12 @@
 //! The cycles of a feature graph.
 ghost use Rattle.std.specs.Prelude.{◌≡◌, ◌<◌, ◌++◌, All, IfOk, OnOk, map};
-ghost use Rattle.binary_records.specs.Records.{list, number};
+ghost use Rattle.graph_answers.specs.binary.Records.{list, number};
 ghost use Rattle.guppy_support.specs.Cycles.{nodes_of};
 ghost use Rattle.graph_answers.specs.requests.Answers.{Has, answer_with};
 ghost use Rattle.graph_answers.specs.requests.Contents.{Cyclic};
 
+use crate::binary::{Entries, Numbers, push_list};
 use crate::requests::answers::status;
-use binary_records::{Entries, Numbers, push_list};
 use digraph_orders::Order;
 use feature_core::FeatureGraphData;
 use guppy_support::laws::views_stay_within;

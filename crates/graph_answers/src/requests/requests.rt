@@ -3,7 +3,7 @@ ghost use Rattle.std.specs.Prelude.{◌≡◌, IfSome, IsTrue, Some};
 ghost use Rattle.std.specs.Option.{option_map};
 ghost use Rattle.graph_answers.specs.requests.Requests as spec;
 
-use binary_records::counted;
+use crate::binary::counted;
 use guppy_packages::DependencyDirection;
 use walk_engine::{Half, StepReason};
 

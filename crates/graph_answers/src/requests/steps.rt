@@ -4,8 +4,8 @@ ghost use Rattle.std.specs.Option.{option_map};
 ghost use Rattle.graph_answers.specs.requests.Contents as content;
 ghost use Rattle.graph_answers.specs.requests.Requests as spec;
 
+use crate::binary::{Entries, push_number};
 use crate::requests::requests::{half_in, reason_in};
-use binary_records::{Entries, push_number};
 use std::alloc::{AllocError, Global};
 use walk_engine::{Half, Step, StepReason};
 

@@ -1,7 +1,7 @@
 //! Walks over a feature graph.
 ghost use Rattle.std.specs.Prelude.{◌≡◌, ◌↔◌, ◌++◌, ℕ, Bool, List, IfOk, IfSome, IsTrue, length};
 ghost use Rattle.std.specs.Option.{option_map};
-ghost use Rattle.binary_records.specs.Records.{list};
+ghost use Rattle.graph_answers.specs.binary.Records.{list};
 ghost use Rattle.digraphs.specs.Bits.{has, members};
 ghost use Rattle.walk_engine.specs.Explanations.{IsExplainedWalk};
 ghost use Rattle.feature_core.specs.Built.{IsBuilt};
@@ -13,12 +13,12 @@ ghost use Rattle.graph_answers.specs.requests.Choices.{choice_of};
 ghost use Rattle.graph_answers.specs.requests.Contents.{Reached, Walked, offer_record, step_record};
 ghost use Rattle.graph_answers.specs.requests.Requests as spec;
 
+use crate::binary::push_list;
 use crate::requests::answers::{broken, status, with_numbers};
 use crate::requests::choice::{Choice, choice_in};
 use crate::requests::requests::{start_in, view_in};
 use crate::requests::sets::set_of;
 use crate::requests::steps::{Offers, Steps};
-use binary_records::push_list;
 use digraphs::IxBitSet;
 use feature_core::{EdgeChoice, FeatureGraphData, Packed, walk_all};
 use guppy_packages::{DependencyDirection, PackageGraph};

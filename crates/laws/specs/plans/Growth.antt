@@ -3,7 +3,7 @@ use Rattle.std.specs.Prelude.{◌≡◌, ℕ, List, Bool, Contains, IsTrue, Opti
 use Rattle.guppy_packages.specs.Rows.{Declared, Text}
 use Rattle.guppy_packages.specs.Tables.{AreTables, FeatureTable, LinkTable, PackageTable, Tables}
 use Rattle.feature_labels.specs.Names.{LabelName}
-use Rattle.step_visits.specs.Visits.{IsVisit, Visit, reaches}
+use Rattle.plan_starts.specs.step_visits.Visits.{IsVisit, Visit, reaches}
 use Rattle.cargo_workspaces.specs.Workspaces.{FeatureText, IsWorkspace, WorkspaceText}
 use Rattle.plan_words.specs.Selections.{SelectionText}
 use Rattle.plan_rows.specs.Commands.{command_of}

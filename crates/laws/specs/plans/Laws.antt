@@ -4,7 +4,7 @@ use Rattle.std.specs.List.{list_any}
 use Rattle.guppy_packages.specs.Rows.{RowText}
 use Rattle.guppy_packages.specs.Tables.{Tables}
 use Rattle.feature_labels.specs.Names.{LabelName}
-use Rattle.step_visits.specs.Visits.{IsReached, IsVisitOf, Visit, reaches}
+use Rattle.plan_starts.specs.step_visits.Visits.{IsReached, IsVisitOf, Visit, reaches}
 use Rattle.cargo_workspaces.specs.Workspaces.{DeclarationText, IsWorkspace, PackageText, Text, WorkspaceText, has_macro_target}
 use Rattle.plan_rows.specs.Steps.{SettingsText, admits, is_build, is_development, on_side, resolved_entries}
 use Rattle.plan_rows.specs.declared.side.Side.TheVariants.{Target}
@@ -12,8 +12,8 @@ use Rattle.cargo_plans.specs.plan_units.Commands.{on_starts}
 use Rattle.cargo_plans.specs.plan_units.Units.{UnitText}
 use Rattle.cargo_plans.specs.plan_steps.PlanViews.{IsRefused}
 use Rattle.cargo_plans.specs.plan_steps.Plans.{IsPlan, PlanText}
-use Rattle.cargo_plans.specs.plan_steps.declared.fault.StepFault.{StepFault}
-use Rattle.cargo_plans.specs.plan_steps.declared.fault.StepFault.TheVariants as step
+use Rattle.cargo_plans.specs.declared.plan_steps.fault.StepFault.{StepFault}
+use Rattle.cargo_plans.specs.declared.plan_steps.fault.StepFault.TheVariants as step
 use Rattle.cargo_plans.specs.Plans.{IsPlanOf, WordsText}
 use Rattle.cargo_plans.specs.Refusals.{IsRefusal}
 use Rattle.cargo_plans.specs.declared.fault.PlanFault.{PlanFault}

@@ -2,8 +2,8 @@
 use Rattle.std.specs.Prelude.{ℕ, Bool, IsTrue}
 use Rattle.feature_labels.specs.Names.{LabelName}
 use Rattle.cargo_workspaces.specs.Workspaces.{IsWorkspace, Text, WorkspaceText}
-use Rattle.plan_platforms.specs.DeclaredSpecs.{declared_specs}
-use Rattle.plan_platforms.specs.HeldSpecs.{is_declared}
+use Rattle.plan_rows.specs.platforms.DeclaredSpecs.{declared_specs}
+use Rattle.plan_rows.specs.platforms.HeldSpecs.{is_declared}
 use Rattle.cargo_plans.specs.plan_steps.Plans.{PlanText}
 use Rattle.cargo_plans.specs.Plans.{IsPlanOf, WordsText}
 use Rattle.laws.specs.plans.Widening.{IsCovered, IsOffInPlan}

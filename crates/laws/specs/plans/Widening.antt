@@ -6,16 +6,12 @@ use Rattle.cargo_workspaces.specs.Workspaces.{DeclarationText, IsWorkspace, Pack
 use Rattle.plan_words.specs.Choices.{root_of}
 use Rattle.plan_words.specs.FeatureWords.{PartsText, declares, is_slash, parts_of}
 use Rattle.plan_words.specs.Selections.{SelectionText, all_members}
-use Rattle.plan_rows.specs.Steps.{SettingsText, admits}
+use Rattle.plan_rows.specs.Steps.{SettingsText, admits, admits_any}
 use Rattle.plan_rows.specs.declared.side.Side.{Side}
 use Rattle.cargo_plans.specs.plan_starts.PackageVisits.{is_on}
 use Rattle.cargo_plans.specs.plan_steps.Plans.{IsPlan, PlanText}
 use Rattle.cargo_plans.specs.Plans.{IsPlanOf, WordsText}
 use Rattle.laws.specs.plans.Growth.{CommandsGrow}
-
--- Whether a declaration with this platform applies on one of the targets.
-abbrev pub admits_any : List (Text → Bool) → Option Text → Bool
-admits_any targets platform = list_any (λ holds. admits holds platform) targets
 
 -- Each declaration of the workspace has the property.
 abbrev pub OfDeclarations : WorkspaceText → (DeclarationText → Type 0) → Type 0

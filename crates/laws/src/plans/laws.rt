@@ -4,7 +4,7 @@ ghost use Rattle.laws.specs.plans.Laws.{MoreStartsReachMore, MoreStartsVisitMore
 ghost use Rattle.laws.specs.plans.Widening.{LargerTurnsNothingOff, NoSelectionTurnsOn, WidestTurnsAllOn};
 
 use feature_core::laws::least_monotone;
-use step_visits::one_visit;
+use plan_starts::step_visits::one_visit;
 
 /// States that more starts reach more over the same tables, and so do visits of the same rows.
 pub fn more_starts_reach_more()

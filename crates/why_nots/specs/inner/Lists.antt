@@ -3,7 +3,7 @@ use Rattle.std.specs.Prelude.{◌≡◌, ℕ, Bool, List, ◌++◌, Option, Some
 use Rattle.std.specs.List.{zip}
 use Rattle.std.specs.Global.{Vec}
 use Rattle.std.proofs.Common.{Global, String}
-use Rattle.built_parts.specs.declared.state.PartState.{PartState}
+use Rattle.cargo_plans.specs.declared.built_parts.state.PartState.{PartState}
 use Rattle.cargo_workspaces.specs.Workspaces.{Text, PackageText, WorkspaceText}
 use Rattle.cargo_plans.specs.Plans.{WordsText}
 use Rattle.cargo_plans.specs.plan_starts.PackageVisits.{PairVisit}

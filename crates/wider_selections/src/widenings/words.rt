@@ -1,14 +1,14 @@
 //! The words of widened selections.
 ghost use Rattle.std.specs.Prelude.{◌≡◌, Bool, IsFalse};
 ghost use Rattle.cargo_workspaces.specs.Workspaces.{Text};
-ghost use Rattle.plan_platforms.specs.HeldSpecs.{holds_on};
+ghost use Rattle.plan_rows.specs.platforms.HeldSpecs.{holds_on};
 ghost use Rattle.plan_words.specs.Selections.{selection_text};
 ghost use Rattle.cargo_plans.specs.WordsView.{words_text};
 ghost use Rattle.wider_selections.specs.widenings.Widenings as spec;
 
 use crate::widenings::widening::Widening;
 use cargo_plans::{PackageChoice, PlanWords, Selection};
-use plan_platforms::HeldSpecs;
+use plan_rows::platforms::HeldSpecs;
 use std::slice;
 
 /// Returns `selection` with all features of the selected members.

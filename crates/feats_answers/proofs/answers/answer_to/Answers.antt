@@ -5,7 +5,7 @@ use Rattle.cargo_plans.specs.Plans.{WordsText}
 use Rattle.cargo_plans.specs.WordsView.{words_text}
 use Rattle.cargo_workspaces.specs.Workspaces.{WorkspaceText}
 use Rattle.cargo_workspaces.specs.WorkspaceView.{workspace_text}
-use Rattle.plan_platforms.specs.HeldSpecs.{holds_on}
+use Rattle.plan_rows.specs.platforms.HeldSpecs.{holds_on}
 use Rattle.cargo_plans.specs.plan_steps.Plans.{PlanText}
 use Rattle.cargo_plans.specs.plan_steps.PlanViews.{plan_text}
 use Rattle.feats_files.specs.Messages.{Says}

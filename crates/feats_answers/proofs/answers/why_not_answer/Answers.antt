@@ -3,7 +3,7 @@ use Rattle.std.specs.List.{AllZip}
 use Rattle.cargo_plans.specs.WordsView.{words_text}
 use Rattle.cargo_workspaces.specs.WorkspaceView.{workspace_text}
 use Rattle.plan_names.specs.Views.{named_text}
-use Rattle.plan_platforms.specs.HeldSpecs.{holds_on}
+use Rattle.plan_rows.specs.platforms.HeldSpecs.{holds_on}
 use Rattle.cargo_plans.specs.plan_steps.PlanViews.{plan_text}
 use Rattle.why_nots.specs.PartView.{part_text}
 use Rattle.why_nots.specs.Parts.{PartText}

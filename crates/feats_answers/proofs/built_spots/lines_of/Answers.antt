@@ -1,10 +1,10 @@
 use Rattle.std.proofs.Common.{◌∙◌, ap, map, List}
 use Rattle.std.proofs.lemmas.Result.{IfOk-weaker}
-use Rattle.built_parts.specs.BuiltViews.{is_built_in, script_in}
-use Rattle.built_parts.specs.Scripts.{lacking_script}
+use Rattle.cargo_plans.specs.built_parts.BuiltViews.{is_built_in, script_in}
+use Rattle.cargo_plans.specs.built_parts.Scripts.{lacking_script}
 use Rattle.cargo_plans.specs.WordsView.{words_text}
 use Rattle.cargo_workspaces.specs.WorkspaceView.{workspace_text}
-use Rattle.plan_platforms.specs.HeldSpecs.{holds_on}
+use Rattle.plan_rows.specs.platforms.HeldSpecs.{holds_on}
 use Rattle.plan_whys.specs.StepViews.{spot_text}
 use Rattle.why_lines.specs.Unbuilt.{UnbuiltText, unbuilt_lines, unbuilt_text}
 use Rattle.feats_answers.proofs.Built.{same_scripts}

@@ -1,5 +1,5 @@
 use Rattle.std.proofs.Common.{◌≡◌, ◌++◌, drop, map}
-use Rattle.built_parts.specs.BuiltViews.{state_in}
+use Rattle.cargo_plans.specs.built_parts.BuiltViews.{state_in}
 use Rattle.plan_whys.specs.StepViews.{spot_text}
 use Rattle.feats_answers.specs.BuiltSpots as spec
 use Rattle.feats_answers.proofs.built_spots.those_in.Given as goal

@@ -1,10 +1,10 @@
 use Rattle.std.proofs.Common.{◌∙◌, ℕ, List, ap, map, sym}
 use Rattle.std.specs.Global.{Vec}
-use Rattle.built_parts.specs.BuiltViews.{is_built_in, state_in}
+use Rattle.cargo_plans.specs.built_parts.BuiltViews.{is_built_in, state_in}
 use Rattle.cargo_plans.specs.WordsView.{words_text}
 use Rattle.cargo_workspaces.specs.WorkspaceView.{workspace_text}
 use Rattle.feats_words.specs.declared.command_arguments.Format.{Format}
-use Rattle.plan_platforms.specs.HeldSpecs.{holds_on}
+use Rattle.plan_rows.specs.platforms.HeldSpecs.{holds_on}
 use Rattle.plan_whys.specs.Steps.{SpotText}
 use Rattle.plan_whys.specs.StepViews.{spot_text}
 use Rattle.plan_whys.specs.declared.steps.Spot.{Spot}

@@ -1,5 +1,5 @@
 use Rattle.std.proofs.Common.{◌≡◌, ◌++◌, drop, map}
-use Rattle.built_parts.specs.BuiltViews.{script_in}
+use Rattle.cargo_plans.specs.built_parts.BuiltViews.{script_in}
 use Rattle.plan_whys.specs.StepViews.{spot_text}
 use Rattle.why_lines.specs.Unbuilt.{unbuilt_text}
 use Rattle.feats_answers.specs.BuiltSpots as spec

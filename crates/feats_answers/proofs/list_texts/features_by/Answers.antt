@@ -1,6 +1,6 @@
 use Rattle.std.proofs.Common.{ℕ, ◌∙◌, ap, sym}
 use Rattle.std.specs.Global.{Vec}
-use Rattle.built_parts.specs.BuiltViews.{is_built_in}
+use Rattle.cargo_plans.specs.built_parts.BuiltViews.{is_built_in}
 use Rattle.cargo_workspaces.specs.Views.{package_text}
 use Rattle.feats_words.specs.declared.command_arguments.Format.{Format}
 use Rattle.feats_answers.specs.ListTexts.{feature_text}

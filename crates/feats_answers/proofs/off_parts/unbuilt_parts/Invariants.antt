@@ -1,5 +1,5 @@
 use Rattle.std.proofs.Common.{◌≡◌, ◌++◌, drop, map}
-use Rattle.built_parts.specs.BuiltViews.{is_built_in}
+use Rattle.cargo_plans.specs.built_parts.BuiltViews.{is_built_in}
 use Rattle.plan_names.specs.Views.{named_text}
 use Rattle.why_nots.specs.PartView.{part_text}
 use Rattle.feats_answers.specs.WhyNotTexts as spec

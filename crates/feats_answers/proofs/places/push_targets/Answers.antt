@@ -1,7 +1,7 @@
 use Rattle.std.proofs.Common.{ap, map, inl, inr}
 use Rattle.std.proofs.lemmas.List.{nil_from_length}
 use Rattle.cargo_workspaces.specs.Views.{texts}
-use Rattle.plan_platforms.specs.HeldSpecs.{holds_on}
+use Rattle.plan_rows.specs.platforms.HeldSpecs.{holds_on}
 use Rattle.feats_answers.specs.SpecTexts.{place_of}
 use Rattle.feats_answers.proofs.Zips.{first_ended, second_ended}
 use Rattle.feats_answers.proofs.places.push_targets.Goals as goal

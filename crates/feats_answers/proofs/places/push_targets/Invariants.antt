@@ -2,7 +2,7 @@ use Rattle.std.proofs.Common.{◌≡◌, ◌++◌, map}
 use Rattle.std.specs.Iterator.Adapters.{zip_first, zip_second}
 use Rattle.std.specs.Slice.Iter.{iter_rest}
 use Rattle.cargo_workspaces.specs.Views.{texts}
-use Rattle.plan_platforms.specs.HeldSpecs.{holds_on}
+use Rattle.plan_rows.specs.platforms.HeldSpecs.{holds_on}
 use Rattle.feats_list.specs.platforms.Views.{place_text}
 use Rattle.feats_answers.specs.SpecTexts.{named_places}
 use Rattle.feats_answers.proofs.places.push_targets.Given as goal

@@ -5,9 +5,9 @@ use Rattle.std.specs.Prelude.{option_copied, option_map, Bool}
 use Rattle.cargo_plans.specs.WordsView.{words_text}
 use Rattle.cargo_workspaces.specs.Workspaces.{Text}
 use Rattle.cargo_workspaces.specs.WorkspaceView.{workspace_text}
-use Rattle.plan_platforms.specs.HeldSpecs.{holds_on}
-use Rattle.plan_platforms.specs.Views.{declared_text}
-use Rattle.plan_platforms.specs.declared.holding.HeldSpecs.{HeldSpecs}
+use Rattle.plan_rows.specs.platforms.HeldSpecs.{holds_on}
+use Rattle.plan_rows.specs.platforms.Views.{declared_text}
+use Rattle.plan_rows.specs.declared.platforms.holding.HeldSpecs.{HeldSpecs}
 use Rattle.cargo_plans.specs.plan_steps.PlanViews.{plan_text}
 use Rattle.feats_check.specs.checking.Answers.{IsPolicyAnswer, IsPolicyRefusal}
 use Rattle.feats_answers.specs.AnswerViews.{answer_text}

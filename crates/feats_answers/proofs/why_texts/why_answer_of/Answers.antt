@@ -1,11 +1,11 @@
 use Rattle.std.proofs.Common.{◌∙◌, ap, map, sym}
 use Rattle.std.proofs.lemmas.Result.{IfOk-weaker}
-use Rattle.built_parts.specs.BuiltViews.{is_built_in, state_in}
+use Rattle.cargo_plans.specs.built_parts.BuiltViews.{is_built_in, state_in}
 use Rattle.cargo_plans.specs.WordsView.{words_text}
 use Rattle.cargo_plans.specs.plan_steps.PlanViews.{plan_text}
 use Rattle.cargo_workspaces.specs.WorkspaceView.{workspace_text}
 use Rattle.plan_names.specs.Views.{named_text}
-use Rattle.plan_platforms.specs.HeldSpecs.{holds_on}
+use Rattle.plan_rows.specs.platforms.HeldSpecs.{holds_on}
 use Rattle.plan_whys.specs.StepViews.{spot_text}
 use Rattle.feats_answers.specs.AnswerViews.{answer_text, texts_of}
 use Rattle.feats_answers.specs.BuiltSpots.{unbuilt_text_of}

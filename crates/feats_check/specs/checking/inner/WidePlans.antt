@@ -4,13 +4,13 @@ use Rattle.cargo_plans.specs.Plans.{IsPlanOf}
 use Rattle.cargo_plans.specs.WordsView.{words_text}
 use Rattle.cargo_plans.specs.plan_steps.PlanViews.{plan_text}
 use Rattle.cargo_workspaces.specs.Workspaces.{Text, WorkspaceText}
-use Rattle.plan_platforms.specs.HeldSpecs.{holds_on}
+use Rattle.plan_rows.specs.platforms.HeldSpecs.{holds_on}
 use Rattle.feats_check.specs.checking.Answers.{IsUnplanned}
 use Rattle.feats_check.specs.checking.Questions.{QuestionText}
 use Rattle.feats_check.specs.checking.Scenes.{SceneText, ScenesText, scene_of}
 use Rattle.feats_check.specs.declared.checking.planned.WidePlans.{WidePlans}
 use Rattle.feats_check.specs.declared.checking.planned.WideWords.{WideWords}
-use Rattle.policy_checks.specs.declared.judged.Judged.TheVariants.{ForEveryChoice, WithAll}
+use Rattle.policies.specs.declared.checks.judged.Judged.TheVariants.{ForEveryChoice, WithAll}
 
 -- The plans are those of the words.
 pub record AreWidePlans (w : WorkspaceText) (words : WideWords) (plans : WidePlans) : Type 0 where

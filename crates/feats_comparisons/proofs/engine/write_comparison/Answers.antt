@@ -1,5 +1,5 @@
 use Rattle.std.proofs.Common.{subst, sym}
-use Rattle.feats_differences.specs.feats_answers.AnswerViews.{answer_text}
+use Rattle.feats_answers.specs.AnswerViews.{answer_text}
 use Rattle.feats_comparisons.specs.Comparisons.{IsShown}
 use Rattle.feats_comparisons.specs.SideView.{side_text}
 use Rattle.feats_comparisons.proofs.engine.write_comparison.Goals as goal

@@ -1,6 +1,6 @@
 use Rattle.std.proofs.Common.{refl, map, rules}
 use Rattle.cargo_workspaces.specs.WorkspaceView.{workspace_text}
-use Rattle.plan_platforms.specs.Views.{declared_text}
+use Rattle.plan_rows.specs.platforms.Views.{declared_text}
 use Rattle.feats_files.specs.Platforms.{IsSpecRefusal, specs_message}
 use Rattle.feats_files.proofs.Says.{says_of}
 use Rattle.feats_files.proofs.platforms.held_on.Goals as goal

@@ -1,6 +1,6 @@
 use Rattle.std.proofs.Common.{map}
-use Rattle.plan_platforms.specs.HeldSpecs.{holds_on}
-use Rattle.plan_platforms.specs.Views.{declared_text}
+use Rattle.plan_rows.specs.platforms.HeldSpecs.{holds_on}
+use Rattle.plan_rows.specs.platforms.Views.{declared_text}
 use Rattle.feats_files.proofs.Held.{held_more}
 use Rattle.feats_files.proofs.platforms.held_on_each.Goals as goal
 

@@ -1,5 +1,5 @@
 use Rattle.std.proofs.Common.{subst, sym}
-use Rattle.numbered_workspaces.specs.declared.fault.WorkspaceFault.{WorkspaceFault}
+use Rattle.feats_plans.specs.declared.numbered_workspaces.fault.WorkspaceFault.{WorkspaceFault}
 use Rattle.feats_files.specs.Messages.{Says}
 use Rattle.feats_plans.specs.DocumentMessages.{IsMessageOf}
 use Rattle.feats_plans.proofs.document_messages.document_refused.Goals as goal

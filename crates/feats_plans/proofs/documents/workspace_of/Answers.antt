@@ -1,6 +1,6 @@
 use Rattle.std.specs.Prelude.{◌≡◌, IsErrAnd}
 use Rattle.json.specs.Value.{value_view}
-use Rattle.numbered_workspaces.specs.Faults.{workspace_in}
+use Rattle.feats_plans.specs.numbered_workspaces.Faults.{workspace_in}
 use Rattle.feats_plans.specs.DocumentMessages.{IsMessageOf, document_message}
 use Rattle.feats_plans.proofs.NoWorkspaces.{message_of}
 use Rattle.feats_plans.proofs.Says.{says_more}

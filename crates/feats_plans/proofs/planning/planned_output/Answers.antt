@@ -2,8 +2,8 @@ use Rattle.std.proofs.Common.{◌≡◌, rules}
 use Rattle.std.proofs.lemmas.Result.{IfOk-weaker}
 use Rattle.cargo_plans.specs.WordsView.{words_text}
 use Rattle.cargo_workspaces.specs.WorkspaceView.{workspace_text}
-use Rattle.plan_messages.specs.Messages.{plan_message}
-use Rattle.plan_platforms.specs.HeldSpecs.{holds_on}
+use Rattle.feats_files.specs.plan_messages.Messages.{plan_message}
+use Rattle.plan_rows.specs.platforms.HeldSpecs.{holds_on}
 use Rattle.cargo_plans.specs.plan_steps.PlanViews.{plan_text}
 use Rattle.feats_plans.specs.Inputs.{inputs_text}
 use Rattle.feats_plans.specs.Planning.{IsPlanRefusal, no_plan, of_plan, planned}
@@ -30,4 +30,4 @@ returns-else-is_memory-clause-fault g c =
     let words = words_text holds_on c.args.words.now in
     let R = g.V.PlanVisitor.refuses c.args.visitor.now in
     says_more c.plan_refused.result (λ m. m ≡ plan_message w.packages c.in-Err.fault) (IsPlanRefusal inputs w words R)
-        (λ m h. no_plan c.in-Err.fault c.in-Err.ensures.fault (search rules) h) c.plan_refused.ensures
+    (λ m h. no_plan c.in-Err.fault c.in-Err.ensures.fault (search rules) h) c.plan_refused.ensures

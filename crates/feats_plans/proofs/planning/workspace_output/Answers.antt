@@ -2,8 +2,8 @@ use Rattle.std.proofs.Common.{◌∙◌, ap, map}
 use Rattle.std.proofs.lemmas.Result.{IfOk-weaker}
 use Rattle.cargo_plans.specs.WordsView.{words_text}
 use Rattle.cargo_workspaces.specs.WorkspaceView.{workspace_text}
-use Rattle.plan_platforms.specs.HeldSpecs.{holds_on}
-use Rattle.plan_platforms.specs.Views.{declared_text}
+use Rattle.plan_rows.specs.platforms.HeldSpecs.{holds_on}
+use Rattle.plan_rows.specs.platforms.Views.{declared_text}
 use Rattle.feats_plans.specs.BasisView.{basis_text}
 use Rattle.feats_plans.specs.Inputs.{inputs_text}
 use Rattle.feats_plans.specs.Planning.{IsPlanRefusal, IsPlatformRefusal}

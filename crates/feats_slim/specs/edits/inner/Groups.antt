@@ -7,7 +7,7 @@ use Rattle.std.specs.Option.{option_map_or}
 use Rattle.std.specs.Ordering.{nat_cmp}
 use Rattle.cargo_workspaces.specs.Views.{texts}
 use Rattle.cargo_workspaces.specs.Workspaces.{Text}
-use Rattle.plan_units.specs.Units.{UnitText}
+use Rattle.cargo_plans.specs.plan_units.Units.{UnitText}
 use Rattle.feats_slim.specs.edits.Losses.{places_of}
 
 -- A borrowed list of features.

@@ -1,7 +1,7 @@
 use Rattle.std.proofs.Common.{◌∷◌, [], ℕ}
 use Rattle.std.specs.Borrow.{Bor}
 use Rattle.cargo_workspaces.specs.Workspaces.{Text}
-use Rattle.cargo_plans.specs.plan_units.declared.unit.Place.TheVariants.{Target}
+use Rattle.cargo_plans.specs.declared.plan_units.unit.Place.TheVariants.{Target}
 use Rattle.plan_duplicates.proofs.Lists.{numbered_more}
 use Rattle.plan_duplicates.proofs.alone.all_places.Goals as goal
 

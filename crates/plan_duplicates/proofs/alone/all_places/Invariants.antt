@@ -2,7 +2,7 @@ use Rattle.std.proofs.Common.{◌≡◌, ◌++◌, ◌∷◌, [], ℕ, drop}
 use Rattle.cargo_workspaces.specs.Views.{texts}
 use Rattle.cargo_workspaces.specs.Workspaces.{Text}
 use Rattle.cargo_plans.specs.plan_starts.Lists.{joined_from}
-use Rattle.cargo_plans.specs.plan_units.declared.unit.Place.TheVariants.{Target}
+use Rattle.cargo_plans.specs.declared.plan_units.unit.Place.TheVariants.{Target}
 use Rattle.plan_duplicates.specs.Alone.{all_places}
 use Rattle.plan_duplicates.proofs.alone.all_places.Given as goal
 

@@ -1,7 +1,7 @@
 use Rattle.std.proofs.Common.{◌∙◌, ◌++◌, ℕ, List, ap, map}
 use Rattle.cargo_workspaces.specs.Views.{package_text, texts}
 use Rattle.cargo_workspaces.specs.Workspaces.{PackageText}
-use Rattle.cargo_plans.specs.plan_units.declared.unit.Place.{Place}
+use Rattle.cargo_plans.specs.declared.plan_units.unit.Place.{Place}
 use Rattle.plan_duplicates.specs.Alone.{all_places, alone_in}
 use Rattle.plan_duplicates.specs.Views.{alone_text, member_unit_text}
 use Rattle.plan_duplicates.proofs.Lists.{joined_more}

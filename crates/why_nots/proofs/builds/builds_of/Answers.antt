@@ -1,9 +1,9 @@
 use Rattle.std.proofs.Common.{◌∙◌, ap, ℕ, Bool}
-use Rattle.built_parts.specs.Scripts.{lacking_script}
+use Rattle.cargo_plans.specs.built_parts.Scripts.{lacking_script}
 use Rattle.cargo_plans.specs.WordsView.{words_text}
 use Rattle.cargo_workspaces.specs.WorkspaceView.{workspace_text}
 use Rattle.feature_labels.specs.Names.{LabelName}
-use Rattle.plan_platforms.specs.HeldSpecs.{holds_on}
+use Rattle.plan_rows.specs.platforms.HeldSpecs.{holds_on}
 use Rattle.plan_rows.specs.declared.side.Side.{Side}
 use Rattle.why_nots.proofs.builds.builds_of.Goals as goal
 

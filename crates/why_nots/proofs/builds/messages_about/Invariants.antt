@@ -1,5 +1,5 @@
 use Rattle.std.proofs.Common.{◌≡◌, ◌++◌, drop, map}
-use Rattle.built_parts.specs.BuiltViews.{script_in, state_in}
+use Rattle.cargo_plans.specs.built_parts.BuiltViews.{script_in, state_in}
 use Rattle.cargo_workspaces.specs.WorkspaceView.{workspace_text}
 use Rattle.why_nots.specs.PartView.{part_text}
 use Rattle.why_nots.specs.inner.Lists.{message_about, optional_texts}

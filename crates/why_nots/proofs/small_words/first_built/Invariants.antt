@@ -1,7 +1,7 @@
 use Rattle.std.proofs.Common.{Option, drop, map}
 use Rattle.cargo_plans.specs.WordsView.{words_text}
 use Rattle.cargo_workspaces.specs.WorkspaceView.{workspace_text}
-use Rattle.plan_platforms.specs.HeldSpecs.{holds_on}
+use Rattle.plan_rows.specs.platforms.HeldSpecs.{holds_on}
 use Rattle.why_nots.specs.PartView.{part_text}
 use Rattle.why_nots.specs.Tries.{TypedText}
 use Rattle.why_nots.specs.Typed.{IsFirst}

@@ -1,5 +1,5 @@
 use Rattle.std.proofs.Common.{◌∙◌, ap, ℕ}
-use Rattle.built_parts.specs.declared.state.PartState.{PartState}
+use Rattle.cargo_plans.specs.declared.built_parts.state.PartState.{PartState}
 use Rattle.feature_labels.specs.Names.{LabelName}
 use Rattle.plan_rows.specs.declared.side.Side.{Side}
 use Rattle.why_nots.specs.PartView.{part_text}

@@ -1,7 +1,7 @@
 use Rattle.std.proofs.Common.{arith, map, refl}
 use Rattle.cargo_plans.specs.WordsView.{words_text}
 use Rattle.cargo_workspaces.specs.WorkspaceView.{workspace_text}
-use Rattle.plan_platforms.specs.HeldSpecs.{holds_on}
+use Rattle.plan_rows.specs.platforms.HeldSpecs.{holds_on}
 use Rattle.plan_whys.proofs.StepLists.{map_pushed, zip_next}
 use Rattle.why_nots.specs.inner.Lists.{IsTold, about_value, told_value}
 use Rattle.why_nots.specs.declared.told.PartAnswer.{PartAnswer}

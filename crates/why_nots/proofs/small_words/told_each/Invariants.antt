@@ -2,7 +2,7 @@ use Rattle.std.proofs.Common.{map, take}
 use Rattle.std.specs.List.{AllZip}
 use Rattle.cargo_plans.specs.WordsView.{words_text}
 use Rattle.cargo_workspaces.specs.WorkspaceView.{workspace_text}
-use Rattle.plan_platforms.specs.HeldSpecs.{holds_on}
+use Rattle.plan_rows.specs.platforms.HeldSpecs.{holds_on}
 use Rattle.why_nots.specs.inner.Lists.{IsTold, about_value, told_value}
 use Rattle.why_nots.proofs.small_words.told_each.Given as goal
 

@@ -1,5 +1,5 @@
 use Rattle.std.proofs.Common.{◌≡◌, ◌++◌, drop, map}
-use Rattle.built_parts.specs.BuiltViews.{state_in}
+use Rattle.cargo_plans.specs.built_parts.BuiltViews.{state_in}
 use Rattle.plan_whys.specs.StepViews.{spot_text}
 use Rattle.why_nots.specs.PartView.{part_text}
 use Rattle.why_nots.specs.inner.Lists.{first_spot}

@@ -10,7 +10,7 @@ use Rattle.why_nots.specs.Parts.{PartText}
 use Rattle.why_nots.specs.Texts.{IsWhyNotText}
 use Rattle.cargo_plans.specs.WordsView.{words_text}
 use Rattle.cargo_workspaces.specs.WorkspaceView.{workspace_text}
-use Rattle.plan_platforms.specs.HeldSpecs.{holds_on}
+use Rattle.plan_rows.specs.platforms.HeldSpecs.{holds_on}
 use Rattle.wider_selections.specs.widenings.Widenings.{widened}
 use Rattle.why_nots.specs.PartView.{part_text}
 use Rattle.why_nots.specs.Texts.{IsSection, head_text}

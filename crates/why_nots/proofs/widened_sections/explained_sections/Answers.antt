@@ -1,10 +1,10 @@
 use Rattle.std.proofs.Common.{◌∙◌, ap, map}
 use Rattle.std.proofs.lemmas.Result.{IfOk-weaker}
 use Rattle.std.specs.Prelude.{zip}
-use Rattle.built_parts.specs.BuiltViews.{script_in, state_in}
+use Rattle.cargo_plans.specs.built_parts.BuiltViews.{script_in, state_in}
 use Rattle.cargo_plans.specs.WordsView.{words_text}
 use Rattle.cargo_workspaces.specs.WorkspaceView.{workspace_text}
-use Rattle.plan_platforms.specs.HeldSpecs.{holds_on}
+use Rattle.plan_rows.specs.platforms.HeldSpecs.{holds_on}
 use Rattle.cargo_plans.specs.plan_steps.PlanViews.{plan_text}
 use Rattle.plan_whys.specs.StepViews.{found_text}
 use Rattle.why_nots.specs.PartView.{part_text}

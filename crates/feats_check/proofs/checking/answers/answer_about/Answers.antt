@@ -4,13 +4,13 @@ use Rattle.std.specs.Prelude.{IfErr, option_map}
 use Rattle.cargo_plans.specs.WordsView.{words_text}
 use Rattle.cargo_workspaces.specs.WorkspaceView.{workspace_text}
 use Rattle.feats_files.specs.Messages.{Says}
-use Rattle.plan_platforms.specs.HeldSpecs.{holds_on}
-use Rattle.plan_platforms.specs.declared.holding.HeldSpecs.{HeldSpecs}
+use Rattle.plan_rows.specs.platforms.HeldSpecs.{holds_on}
+use Rattle.plan_rows.specs.declared.platforms.holding.HeldSpecs.{HeldSpecs}
 use Rattle.cargo_plans.specs.plan_steps.PlanViews.{plan_text}
 use Rattle.feats_check.specs.checking.Answers.{IsRefusalWith}
 use Rattle.feats_check.specs.checking.QuestionViews.{question_text}
 use Rattle.feats_check.specs.checking.Scenes.{scene_of}
-use Rattle.policy_checks.specs.declared.judged.Judged.TheVariants.{InBuild}
+use Rattle.policies.specs.declared.checks.judged.Judged.TheVariants.{InBuild}
 use Rattle.feats_check.proofs.Scened.{alone, unchecked}
 use Rattle.feats_check.proofs.checking.answers.answer_about.Goals as goal
 

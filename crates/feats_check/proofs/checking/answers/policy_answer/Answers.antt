@@ -2,13 +2,13 @@ use Rattle.std.proofs.Common.{ℕ, List, subst}
 use Rattle.std.proofs.lemmas.Result.{IfOk-weaker}
 use Rattle.cargo_plans.specs.WordsView.{words_text}
 use Rattle.cargo_workspaces.specs.WorkspaceView.{workspace_text}
-use Rattle.plan_platforms.specs.HeldSpecs.{holds_on}
+use Rattle.plan_rows.specs.platforms.HeldSpecs.{holds_on}
 use Rattle.cargo_plans.specs.plan_steps.PlanViews.{plan_text}
 use Rattle.plan_words.specs.Choices.{chosen_text}
 use Rattle.feats_check.specs.checking.Answers.{IsAnswerWith, IsPolicyRefusal, IsRefusalWith}
 use Rattle.feats_check.specs.checking.QuestionViews.{printed_text, question_text}
 use Rattle.feats_check.specs.checking.Scenes.{scene_of}
-use Rattle.policy_checks.specs.declared.judged.Judged.TheVariants.{InBuild}
+use Rattle.policies.specs.declared.checks.judged.Judged.TheVariants.{InBuild}
 use Rattle.feats_check.proofs.Scened.{err_more}
 use Rattle.feats_check.proofs.checking.answers.policy_answer.Goals as goal
 

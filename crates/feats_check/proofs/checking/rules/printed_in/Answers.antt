@@ -6,8 +6,8 @@ use Rattle.feats_check.specs.checking.QuestionViews.{question_text}
 use Rattle.feats_check.specs.checking.inner.PlannedViews.{scene_by}
 use Rattle.feats_check.proofs.Refusals.{rule_refused}
 use Rattle.feats_check.proofs.checking.rules.printed_in.Goals as goal
-use Rattle.policy_checks.specs.Checks.{IsFirstRefusal, refusals}
-use Rattle.policy_checks.specs.Views.{refusal_text}
+use Rattle.policies.specs.checks.Checks.{IsFirstRefusal, refusals}
+use Rattle.policies.specs.checks.Views.{refusal_text}
 
 pub returns-in-Err-clause-fault : goal.returns-in-Err-clause-fault
 returns-in-Err-clause-fault c =

@@ -1,5 +1,5 @@
 use Rattle.std.proofs.Common.{map, take}
-use Rattle.plan_platforms.specs.Views.{declared_text}
+use Rattle.plan_rows.specs.platforms.Views.{declared_text}
 use Rattle.feats_list.specs.platforms.Lists.{specs_of}
 use Rattle.feats_list.specs.platforms.inner.Counts.{HasCounts}
 use Rattle.feats_list.proofs.platforms.counted.counts_of.Given as goal

@@ -1,8 +1,8 @@
 use Rattle.std.proofs.Common.{subst, sym}
 use Rattle.std.specs.Prelude.{OnOk}
 use Rattle.line_parts.specs.Members.{Appends}
-use Rattle.workspace_edits.specs.EditViews.{without_text}
-use Rattle.workspace_edits.specs.declared.edits.Without.{Without}
+use Rattle.cargo_manifests.specs.EditViews.{without_text}
+use Rattle.cargo_manifests.specs.declared.edits.Without.{Without}
 use Rattle.feats_slim.specs.answers.Objects.{without_members}
 use Rattle.feats_slim.proofs.answers.objects.write_without.Goals as goal
 

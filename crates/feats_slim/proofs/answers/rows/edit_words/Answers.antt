@@ -1,6 +1,6 @@
 use Rattle.std.proofs.Common.{◌≡◌, subst, sym}
 use Rattle.std.specs.Prelude.{IfOk, string_bytes}
-use Rattle.workspace_edits.specs.EditViews.{without_text}
+use Rattle.cargo_manifests.specs.EditViews.{without_text}
 use Rattle.feats_slim.specs.answers.Lines.{edit_words}
 use Rattle.feats_slim.specs.answers.Views.{shown_place_text}
 use Rattle.feats_slim.specs.declared.answers.shown.ShownPlace.{ShownPlace}

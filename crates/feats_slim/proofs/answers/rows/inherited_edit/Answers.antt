@@ -1,5 +1,5 @@
 use Rattle.std.proofs.Common.{◌∙◌, ap, List, ℕ, ◌++◌, append_assoc, codes}
-use Rattle.workspace_edits.specs.EditViews.{without_text}
+use Rattle.cargo_manifests.specs.EditViews.{without_text}
 use Rattle.feats_slim.specs.answers.Lines.{without_words}
 use Rattle.feats_slim.proofs.answers.rows.inherited_edit.Goals as goal
 

@@ -2,7 +2,7 @@ use Rattle.std.proofs.Common.{◌≡◌, ◌++◌, ℕ, List, map, drop}
 use Rattle.cargo_workspaces.specs.Views.{package_text}
 use Rattle.cargo_workspaces.specs.Workspaces.{PackageText}
 use Rattle.plan_starts.specs.Lists.{joined_from}
-use Rattle.plan_units.specs.Units.{UnitText}
+use Rattle.cargo_plans.specs.plan_units.Units.{UnitText}
 use Rattle.feats_slim.specs.edits.Losses.{lost_among, lost_features}
 use Rattle.feats_slim.specs.edits.LossViews.{lost_feature_text}
 use Rattle.feats_slim.specs.edits.inner.Groups.{HasPlaces}

@@ -3,7 +3,7 @@ use Rattle.std.specs.Prelude.{if◌then◌else◌}
 use Rattle.cargo_workspaces.specs.Views.{package_text}
 use Rattle.cargo_workspaces.specs.Workspaces.{PackageText}
 use Rattle.plan_starts.specs.Lists.{joined_from}
-use Rattle.plan_units.specs.Units.{UnitText}
+use Rattle.cargo_plans.specs.plan_units.Units.{UnitText}
 use Rattle.feats_slim.specs.edits.Losses.{is_lost, lost_packages}
 use Rattle.feats_slim.specs.edits.inner.Groups.{HasPlaces}
 use Rattle.feats_slim.proofs.edits.losses.lost_packages.Given as goal

@@ -1,6 +1,6 @@
 use Rattle.std.proofs.Common.{◌≡◌, ◌++◌, List, map, drop}
 use Rattle.cargo_workspaces.specs.Views.{feature_text}
-use Rattle.plan_units.specs.Units.{UnitText}
+use Rattle.cargo_plans.specs.plan_units.Units.{UnitText}
 use Rattle.feats_slim.specs.edits.Losses.{lost_among}
 use Rattle.feats_slim.specs.edits.LossViews.{lost_feature_text}
 use Rattle.feats_slim.specs.edits.inner.Groups.{HasPlaces}

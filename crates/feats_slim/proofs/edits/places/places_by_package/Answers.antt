@@ -1,6 +1,6 @@
 use Rattle.std.proofs.Common.{nat_eq}
-use Rattle.plan_units.specs.UnitViews.{unit_text}
-use Rattle.plan_units.specs.Units.{UnitText}
+use Rattle.cargo_plans.specs.plan_units.UnitViews.{unit_text}
+use Rattle.cargo_plans.specs.plan_units.Units.{UnitText}
 use Rattle.feats_slim.proofs.Lists.{mapped_more}
 use Rattle.feats_slim.proofs.edits.places.places_by_package.Goals as goal
 

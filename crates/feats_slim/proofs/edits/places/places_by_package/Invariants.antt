@@ -1,5 +1,5 @@
 use Rattle.std.proofs.Common.{◌≡◌, ◌++◌, ℕ, map, drop}
-use Rattle.plan_units.specs.UnitViews.{unit_text}
+use Rattle.cargo_plans.specs.plan_units.UnitViews.{unit_text}
 use Rattle.feats_slim.specs.edits.Losses.{places_of}
 use Rattle.feats_slim.specs.edits.inner.Groups.{group_at, lists_text}
 use Rattle.feats_slim.proofs.edits.places.places_by_package.Given as goal

@@ -3,8 +3,8 @@ use Rattle.std.specs.List.{AllByRecursion}
 use Rattle.cargo_plans.specs.WordsView.{words_text}
 use Rattle.cargo_workspaces.specs.WorkspaceView.{workspace_text}
 use Rattle.cargo_plans.specs.plan_units.UnitViews.{unit_text}
-use Rattle.inherited_dependencies.specs.InheritanceView.{inheritance_text}
-use Rattle.workspace_edits.specs.EditViews.{edit_text}
+use Rattle.cargo_manifests.specs.inherited.InheritanceView.{inheritance_text}
+use Rattle.cargo_manifests.specs.EditViews.{edit_text}
 use Rattle.feats_slim.specs.edits.Orders.{SlimText}
 use Rattle.feats_slim.specs.edits.Slims.{IsTried}
 use Rattle.feats_slim.specs.edits.SlimViews.{slim_text}

@@ -1,7 +1,7 @@
 use Rattle.std.proofs.Common.{◌∙◌, List, map, ap, sym}
 use Rattle.std.specs.String.{string_bytes}
 use Rattle.cargo_workspaces.specs.WorkspaceView.{workspace_text}
-use Rattle.plan_steps.specs.PlanViews.{plan_text}
+use Rattle.cargo_plans.specs.plan_steps.PlanViews.{plan_text}
 use Rattle.plan_whys.specs.StepViews.{spot_text}
 use Rattle.plan_whys.specs.declared.steps.Spot.{Spot}
 use Rattle.feats_tree.specs.features.Titles.{labels_of}

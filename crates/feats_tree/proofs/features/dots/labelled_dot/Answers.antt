@@ -1,6 +1,6 @@
 use Rattle.std.proofs.Common.{map, ap, refl}
 use Rattle.std.specs.String.{string_bytes}
-use Rattle.plan_dots.specs.Views.{node_text}
+use Rattle.feats_tree.specs.dots.Views.{node_text}
 use Rattle.plan_whys.specs.StepViews.{spot_text}
 use Rattle.feats_tree.specs.features.Dots.{clusters}
 use Rattle.feats_tree.proofs.FeaturesShown.{graph_of}

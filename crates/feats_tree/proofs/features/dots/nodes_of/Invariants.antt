@@ -2,7 +2,7 @@ use Rattle.std.proofs.Common.{◌≡◌, ◌++◌, map}
 use Rattle.std.specs.Iterator.Adapters.{zip_first, zip_second}
 use Rattle.std.specs.Slice.Iter.{iter_rest}
 use Rattle.std.specs.String.{string_bytes}
-use Rattle.plan_dots.specs.Views.{node_text}
+use Rattle.feats_tree.specs.dots.Views.{node_text}
 use Rattle.plan_whys.specs.StepViews.{spot_text}
 use Rattle.feats_tree.specs.features.Dots.{nodes_with}
 use Rattle.feats_tree.proofs.features.dots.nodes_of.Given as goal

@@ -1,8 +1,8 @@
 use Rattle.std.proofs.Common.{◌≡◌, ◌++◌, ◌∷◌, [], ℕ, drop, if◌then◌else◌, map}
 use Rattle.std.specs.Prelude.{not, ◌&&◌}
 use Rattle.digraphs.specs.Bits.{has}
-use Rattle.plan_links.specs.SpotLinks.{is_command}
-use Rattle.plan_steps.specs.plan_starts.Lists.{joined_from}
+use Rattle.plan_whys.specs.links.SpotLinks.{is_command}
+use Rattle.cargo_plans.specs.plan_starts.Lists.{joined_from}
 use Rattle.plan_whys.specs.Steps.{SpotText}
 use Rattle.plan_whys.specs.StepViews.{spot_text}
 use Rattle.feats_tree.specs.features.Roots.{numbers_in}

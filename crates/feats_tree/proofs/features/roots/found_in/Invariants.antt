@@ -1,8 +1,8 @@
 use Rattle.std.proofs.Common.{◌≡◌, ◌++◌, ◌∷◌, [], ℕ, drop, if◌then◌else◌}
 use Rattle.std.specs.Prelude.{not, ◌&&◌}
-use Rattle.plan_links.specs.Links.{indexes_of}
-use Rattle.plan_links.specs.SpotLinks.{is_command}
-use Rattle.plan_steps.specs.plan_starts.Lists.{joined_from}
+use Rattle.plan_whys.specs.links.Links.{indexes_of}
+use Rattle.plan_whys.specs.links.SpotLinks.{is_command}
+use Rattle.cargo_plans.specs.plan_starts.Lists.{joined_from}
 use Rattle.plan_whys.specs.StepViews.{spot_text}
 use Rattle.plan_whys.specs.declared.steps.Spot.{Spot}
 use Rattle.feats_tree.specs.features.inner.Keys.{has_key}

@@ -1,6 +1,6 @@
 use Rattle.std.proofs.Common.{map, ap}
 use Rattle.cargo_workspaces.specs.WorkspaceView.{workspace_text}
-use Rattle.plan_steps.specs.PlanViews.{plan_text}
+use Rattle.cargo_plans.specs.plan_steps.PlanViews.{plan_text}
 use Rattle.plan_whys.specs.StepViews.{spot_text}
 use Rattle.feats_tree.proofs.FeaturesShown.{feature_trees}
 use Rattle.feats_tree.proofs.features.trees.feature_tree.Goals as goal

@@ -1,7 +1,7 @@
 use Rattle.std.proofs.Common.{ap, inl, inr, map}
 use Rattle.std.proofs.lemmas.List.{nil_from_length}
 use Rattle.std.specs.String.{string_bytes}
-use Rattle.plan_steps.specs.plan_units.UnitViews.{unit_text}
+use Rattle.cargo_plans.specs.plan_units.UnitViews.{unit_text}
 use Rattle.feats_tree.specs.packages.Dots.{node_of}
 use Rattle.feats_tree.proofs.Zips.{first_ended, second_ended}
 use Rattle.feats_tree.proofs.packages.dots.nodes_of.Goals as goal

@@ -2,8 +2,8 @@ use Rattle.std.proofs.Common.{◌≡◌, ◌++◌, map}
 use Rattle.std.specs.Iterator.Adapters.{zip_first, zip_second}
 use Rattle.std.specs.Slice.Iter.{iter_rest}
 use Rattle.std.specs.String.{string_bytes}
-use Rattle.plan_dots.specs.Views.{node_text}
-use Rattle.plan_steps.specs.plan_units.UnitViews.{unit_text}
+use Rattle.feats_tree.specs.dots.Views.{node_text}
+use Rattle.cargo_plans.specs.plan_units.UnitViews.{unit_text}
 use Rattle.feats_tree.specs.packages.Dots.{nodes_with}
 use Rattle.feats_tree.proofs.packages.dots.nodes_of.Given as goal
 

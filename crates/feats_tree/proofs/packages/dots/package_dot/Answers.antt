@@ -2,9 +2,9 @@ use Rattle.std.proofs.Common.{◌∙◌, ap, ap₂, map, subst, sym}
 use Rattle.std.specs.String.{string_bytes}
 use Rattle.cargo_workspaces.specs.Views.{texts}
 use Rattle.cargo_workspaces.specs.WorkspaceView.{workspace_text}
-use Rattle.plan_links.specs.UnitLinks.{AreUnitLinks}
-use Rattle.plan_steps.specs.PlanViews.{plan_text}
-use Rattle.plan_steps.specs.plan_units.UnitViews.{unit_text}
+use Rattle.plan_whys.specs.links.UnitLinks.{AreUnitLinks}
+use Rattle.cargo_plans.specs.plan_steps.PlanViews.{plan_text}
+use Rattle.cargo_plans.specs.plan_units.UnitViews.{unit_text}
 use Rattle.feats_tree.specs.packages.Titles.{unit_title}
 use Rattle.feats_tree.proofs.PackagesShown.{package_graph}
 use Rattle.feats_tree.proofs.packages.dots.package_dot.Goals as goal

@@ -2,8 +2,8 @@ use Rattle.std.proofs.Common.{◌∙◌, ap, length, map, sym}
 use Rattle.std.proofs.lemmas.List.{length-map}
 use Rattle.std.specs.String.{string_bytes}
 use Rattle.cargo_workspaces.specs.Views.{texts}
-use Rattle.plan_dots.specs.Views.{node_text}
-use Rattle.plan_steps.specs.plan_units.UnitViews.{unit_text}
+use Rattle.feats_tree.specs.dots.Views.{node_text}
+use Rattle.cargo_plans.specs.plan_units.UnitViews.{unit_text}
 use Rattle.feats_tree.proofs.PackagesShown.{graph_of}
 use Rattle.feats_tree.proofs.packages.dots.titled_dot.Goals as goal
 

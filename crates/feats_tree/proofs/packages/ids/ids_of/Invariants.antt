@@ -1,7 +1,7 @@
 use Rattle.std.proofs.Common.{◌≡◌, ◌++◌, drop, map}
 use Rattle.cargo_workspaces.specs.Views.{package_text, texts}
-use Rattle.plan_steps.specs.plan_units.Units.{UnitText}
-use Rattle.plan_steps.specs.plan_units.UnitViews.{unit_text}
+use Rattle.cargo_plans.specs.plan_units.Units.{UnitText}
+use Rattle.cargo_plans.specs.plan_units.UnitViews.{unit_text}
 use Rattle.feats_tree.specs.packages.Titles.{id_at}
 use Rattle.feats_tree.proofs.packages.ids.ids_of.Given as goal
 

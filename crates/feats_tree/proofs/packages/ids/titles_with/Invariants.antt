@@ -3,7 +3,7 @@ use Rattle.std.specs.Iterator.Adapters.{zip_first, zip_second}
 use Rattle.std.specs.Slice.Iter.{iter_rest}
 use Rattle.std.specs.String.{string_bytes}
 use Rattle.cargo_workspaces.specs.Views.{texts}
-use Rattle.link_trees.specs.Titles.{title_text}
+use Rattle.feats_tree.specs.trees.Titles.{title_text}
 use Rattle.feats_tree.specs.packages.Titles.{titles_with}
 use Rattle.feats_tree.proofs.packages.ids.titles_with.Given as goal
 

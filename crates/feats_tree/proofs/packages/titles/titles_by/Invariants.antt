@@ -1,7 +1,7 @@
 use Rattle.std.proofs.Common.{◌≡◌, ◌++◌, drop, map}
 use Rattle.std.specs.String.{string_bytes}
 use Rattle.cargo_workspaces.specs.Views.{package_text, texts}
-use Rattle.plan_steps.specs.plan_units.UnitViews.{unit_text}
+use Rattle.cargo_plans.specs.plan_units.UnitViews.{unit_text}
 use Rattle.feats_tree.specs.packages.Titles.{unit_title}
 use Rattle.feats_tree.proofs.packages.titles.titles_by.Given as goal
 

@@ -1,5 +1,5 @@
 use Rattle.std.proofs.Common.{◌∙◌, IfOk, List, ap, map, subst}
-use Rattle.link_trees.specs.Titles.{TitleText, title_text}
+use Rattle.feats_tree.specs.trees.Titles.{TitleText, title_text}
 use Rattle.feats_tree.specs.packages.Trees.{IsTreeText}
 use Rattle.feats_tree.proofs.packages.tree_texts.titled_text.Goals as goal
 

@@ -1,6 +1,6 @@
 use Rattle.std.proofs.Common.{map, subst, sym}
-use Rattle.link_trees.specs.Branches.{AreTrees}
-use Rattle.link_trees.specs.Titles.{title_text}
+use Rattle.feats_tree.specs.trees.Branches.{AreTrees}
+use Rattle.feats_tree.specs.trees.Titles.{title_text}
 use Rattle.feats_tree.proofs.PackagesShown.{tree_by}
 use Rattle.feats_tree.proofs.packages.tree_texts.tree_text.Goals as goal
 

@@ -1,7 +1,7 @@
 use Rattle.std.proofs.Common.{◌∙◌, IfOk, List, ap, ap₂, map, subst}
 use Rattle.std.specs.String.{string_bytes}
 use Rattle.cargo_workspaces.specs.Views.{texts}
-use Rattle.link_trees.specs.Titles.{TitleText}
+use Rattle.feats_tree.specs.trees.Titles.{TitleText}
 use Rattle.feats_tree.specs.packages.Titles.{titles_with}
 use Rattle.feats_tree.specs.packages.Trees.{IsTreeText}
 use Rattle.feats_tree.proofs.packages.tree_texts.unit_tree.Goals as goal

@@ -1,9 +1,9 @@
 use Rattle.std.proofs.Common.{◌∙◌, ap, map, subst, sym}
 use Rattle.cargo_workspaces.specs.Views.{package_text, texts}
 use Rattle.cargo_workspaces.specs.WorkspaceView.{workspace_text}
-use Rattle.plan_links.specs.UnitLinks.{AreUnitLinks}
-use Rattle.plan_steps.specs.PlanViews.{plan_text}
-use Rattle.plan_steps.specs.plan_units.UnitViews.{unit_text}
+use Rattle.plan_whys.specs.links.UnitLinks.{AreUnitLinks}
+use Rattle.cargo_plans.specs.plan_steps.PlanViews.{plan_text}
+use Rattle.cargo_plans.specs.plan_units.UnitViews.{unit_text}
 use Rattle.feats_tree.specs.packages.Trees.{AreTurned, units_of}
 use Rattle.feats_tree.proofs.PackagesShown.{inverted_trees}
 use Rattle.feats_tree.proofs.packages.trees.inverted_package_tree.Goals as goal

@@ -1,8 +1,8 @@
 use Rattle.std.proofs.Common.{◌≡◌, ◌++◌, ◌∷◌, [], ℕ, drop, map}
 use Rattle.std.specs.Prelude.{◌==◌, if◌then◌else◌}
-use Rattle.plan_steps.specs.plan_starts.Lists.{joined_from}
-use Rattle.plan_steps.specs.plan_units.Units.{UnitText}
-use Rattle.plan_steps.specs.plan_units.UnitViews.{unit_text}
+use Rattle.cargo_plans.specs.plan_starts.Lists.{joined_from}
+use Rattle.cargo_plans.specs.plan_units.Units.{UnitText}
+use Rattle.cargo_plans.specs.plan_units.UnitViews.{unit_text}
 use Rattle.feats_tree.specs.packages.Trees.{units_of}
 use Rattle.feats_tree.proofs.packages.trees.units_of.Given as goal
 

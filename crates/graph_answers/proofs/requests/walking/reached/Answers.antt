@@ -1,6 +1,6 @@
 use Rattle.std.proofs.Common.{◌∙◌, ap, refl, subst}
 use Rattle.std.proofs.lemmas.Result.{IfOk-weaker}
-use Rattle.binary_records.specs.Records.{list, number}
+use Rattle.graph_answers.specs.binary.Records.{list, number}
 use Rattle.digraphs.specs.Bits.{members}
 use Rattle.graph_answers.specs.requests.Answers.{answer_with}
 use Rattle.graph_answers.specs.requests.Contents.{IsSetOf}

@@ -1,5 +1,5 @@
 use Rattle.std.proofs.Common.{arith, ◌∙◌, ap}
-use Rattle.step_visits.specs.feature_labels.Names.{label_of}
+use Rattle.feature_labels.specs.Names.{label_of}
 use Rattle.plan_starts.specs.PackageVisits.{PairVisit, reaches_at}
 use Rattle.plan_starts.proofs.VisitLemmas.{reached_within}
 use Rattle.plan_starts.proofs.package_visit.PackageVisit.reaches.Goals as goal

@@ -1,2 +1,0 @@
-pub mod EntryLemmas
-pub mod WordLemmas

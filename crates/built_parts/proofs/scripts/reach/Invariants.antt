@@ -1,9 +1,0 @@
-use Rattle.std.proofs.Common.{◌≡◌, ℕ, length, ◌+◌, ◌-◌}
-use Rattle.built_parts.specs.BuiltViews.{slot_at}
-use Rattle.built_parts.proofs.scripts.reach.Given as goal
-
-abbrev pub invariant-loop-first : goal.invariant-loop-first
-invariant-loop-first l = (q : ℕ) → slot_at l.first.items q ≡ slot_at l.initial.first.items q
-
-abbrev pub decreases-loop-first : goal.decreases-loop-first
-decreases-loop-first l = l.number + 1 - length l.first.items

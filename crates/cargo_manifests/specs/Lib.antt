@@ -1,0 +1,5 @@
+pub mod EditViews
+pub mod Edits
+pub mod inner
+pub mod inherited
+pub mod resolvers

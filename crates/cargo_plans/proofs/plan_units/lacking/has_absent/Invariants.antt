@@ -1,0 +1,12 @@
+use Rattle.std.proofs.Common.{◌≡◌, ◌&&◌, map, drop}
+use Rattle.std.specs.List.{list_any}
+use Rattle.std.specs.Str.{bytes_eq}
+use Rattle.cargo_workspaces.specs.Views.{declaration_text}
+use Rattle.cargo_workspaces.specs.Workspaces.{DeclarationText}
+use Rattle.cargo_plans.specs.plan_units.Lacking.{is_absent}
+use Rattle.cargo_plans.proofs.plan_units.lacking.has_absent.Given as goal
+
+abbrev pub invariant-loop-declaration : goal.invariant-loop-declaration
+invariant-loop-declaration l =
+    let test = λ (d : DeclarationText). is_absent d && bytes_eq d.name l.name in
+    list_any test (map declaration_text l.declarations) ≡ list_any test (map declaration_text (drop l.declaration-index l.declarations))

@@ -1,0 +1,3 @@
+pub mod PlanViews
+pub mod Plans
+pub mod inner

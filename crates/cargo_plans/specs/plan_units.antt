@@ -1,0 +1,4 @@
+pub mod Commands
+pub mod Lacking
+pub mod UnitViews
+pub mod Units

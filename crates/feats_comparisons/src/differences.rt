@@ -1,0 +1,11 @@
+//! The answer to `diff`: what differs between two builds.
+
+mod answers;
+mod builds;
+mod parts;
+mod shown;
+mod whys;
+
+pub use answers::run_diff;
+pub use builds::Build;
+pub use feats_answers::Answer;

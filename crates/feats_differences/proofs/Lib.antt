@@ -1,4 +1,0 @@
-pub mod PartLists
-pub mod ShownLists
-pub mod WhyLists
-pub mod Zips

@@ -1,0 +1,5 @@
+//! Graphs as Graphviz shows them.
+
+mod dots;
+
+pub use dots::{DotNode, dot_text};

@@ -1,3 +1,0 @@
-pub mod PlatformLemmas
-pub mod NodeLemmas
-pub mod Pushed

@@ -1,8 +1,0 @@
-//! A feature graph as bytes: its packages with their links, its edges, and what was computed with them.
-#![tactic(auto)]
-
-mod describing;
-mod edges;
-mod packages;
-
-pub use describing::push_description;

@@ -1,7 +1,0 @@
-use Rattle.std.proofs.Common.{◌≡◌, drop}
-use Rattle.toml.specs.View.{items_view}
-use Rattle.inherited_dependencies.specs.Entries.{has_text}
-use Rattle.inherited_dependencies.proofs.entries.has_text.Given as goal
-
-abbrev pub invariant-loop-value : goal.invariant-loop-value
-invariant-loop-value l = has_text l.text (items_view l.items) ≡ has_text l.text (items_view (drop l.value-index l.items))

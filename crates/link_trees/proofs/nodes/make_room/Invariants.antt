@@ -1,9 +1,0 @@
-use Rattle.std.proofs.Common.{◌≤◌, length}
-use Rattle.link_trees.specs.inner.Nodes.{AreSame}
-use Rattle.link_trees.proofs.nodes.make_room.Given as goal
-
-abbrev pub invariant-loop-missing : goal.invariant-loop-missing
-invariant-loop-missing l = record {
-  grows : l._missing ≤ length l.nodes.items;
-  same : AreSame l.initial.nodes.items l.nodes.items;
-}

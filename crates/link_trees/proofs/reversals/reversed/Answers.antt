@@ -1,5 +1,0 @@
-use Rattle.link_trees.proofs.PairLemmas.{all_up}
-use Rattle.link_trees.proofs.reversals.reversed.Goals as goal
-
-pub returns-clause-sorted : goal.returns-clause-sorted
-returns-clause-sorted c = all_up _ c.in_ok-sort.ensures.sorted

@@ -1,7 +1,0 @@
-//! The required dependencies of a build that a document lacks.
-#![tactic(auto)]
-
-mod lines;
-mod lost;
-
-pub use lines::lost_lines;

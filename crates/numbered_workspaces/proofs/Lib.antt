@@ -1,5 +1,0 @@
-pub mod Places
-pub mod Zips
-pub mod Names
-pub mod Sound
-pub mod Steps

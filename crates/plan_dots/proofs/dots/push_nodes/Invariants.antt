@@ -1,8 +1,0 @@
-use Rattle.std.proofs.Common.{◌≡◌, ◌++◌, drop, map}
-use Rattle.plan_dots.specs.Dots.{nodes_in}
-use Rattle.plan_dots.specs.Views.{node_text}
-use Rattle.plan_dots.proofs.dots.push_nodes.Given as goal
-
-abbrev pub invariant-loop-number : goal.invariant-loop-number
-invariant-loop-number l =
-    l.initial.text.items ++ nodes_in l.cluster 0 (map node_text l.nodes) ≡ l.text.items ++ nodes_in l.cluster l.number (map node_text (drop l.number l.nodes))

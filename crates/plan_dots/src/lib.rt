@@ -1,6 +1,0 @@
-//! Graphs as Graphviz shows them.
-#![tactic(auto)]
-
-mod dots;
-
-pub use dots::{DotNode, dot_text};

@@ -1,2 +1,0 @@
-pub mod EveryLemmas
-pub mod HoldingLemmas

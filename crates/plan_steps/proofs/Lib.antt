@@ -1,2 +1,0 @@
-pub mod StageLemmas
-pub mod StepVisits

@@ -1,9 +1,0 @@
-use Rattle.cargo_workspaces.specs.WorkspaceView.{workspace_text}
-use Rattle.plan_rows.specs.SettingsView.{settings_text}
-use Rattle.plan_rows.specs.StepRowsView.{row_texts}
-use Rattle.plan_steps.proofs.StepVisits.{on_tables}
-use Rattle.plan_steps.proofs.on_step.tables.Goals as goal
-
-pub returns : goal.returns
-returns g c =
-    on_tables (workspace_text c.args.workspace.now) (settings_text g.P.Platform.holds c.args.settings.now) c.args.kept.now (row_texts c.in_ok-rows.rows) c.package_graph.result c.in_ok-rows.ensures c.package_graph.ensures

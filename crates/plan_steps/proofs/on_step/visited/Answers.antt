@@ -1,9 +1,0 @@
-use Rattle.cargo_workspaces.specs.WorkspaceView.{workspace_text}
-use Rattle.plan_rows.specs.SettingsView.{settings_text}
-use Rattle.plan_steps.proofs.StepVisits.{on_visit}
-use Rattle.plan_steps.proofs.on_step.visited.Goals as goal
-
-pub returns : goal.returns
-returns g c =
-    on_visit (workspace_text c.args.workspace.now) (settings_text g.P.Platform.holds c.args.settings.now) c.args.kept.now c.in_ok-places.places.items c.deref.result.now c.args.tables c.visit.result
-    c.requires.tables c.in_ok-places.ensures c.deref.ensures.value c.visit.ensures

@@ -1,8 +1,0 @@
--- The values that units contain.
-use Rattle.std.specs.Prelude.{List, map}
-use Rattle.cargo_workspaces.specs.Views.{texts}
-use Rattle.plan_units.specs.Units.{UnitText}
-use Rattle.plan_units.specs.declared.unit.Unit.{Unit}
-
-abbrev pub unit_text : Unit → UnitText
-unit_text u = record { place = u.place; number = u.«package»; features = texts u.features.items }

@@ -1,4 +1,0 @@
-pub mod Places
-pub mod Starts
-pub mod Reached
-pub mod Unique

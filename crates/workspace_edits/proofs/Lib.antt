@@ -1,2 +1,0 @@
-pub mod EditLemmas
-pub mod Once

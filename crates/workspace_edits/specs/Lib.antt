@@ -1,3 +1,0 @@
-pub mod EditViews
-pub mod Edits
-pub mod inner
