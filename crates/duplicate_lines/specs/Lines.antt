@@ -1,7 +1,7 @@
 -- The lines in columns.
 use Rattle.std.specs.Prelude.{Bool, true, false, List, [], ◌∷◌, ◌++◌, map, flat_map, codes}
 use Rattle.cargo_workspaces.specs.Workspaces.{Text, PackageText}
-use Rattle.line_parts.specs.Tables.{RowText, table_of}
+use Rattle.plan_lines.specs.parts.Tables.{RowText, table_of}
 use Rattle.plan_lines.specs.Lines.{label_of, name_of, spaced}
 use Rattle.duplicate_lines.specs.Shown.{ShownText, version, in_place, alone, joined, refused, kind_of, package_of}
 

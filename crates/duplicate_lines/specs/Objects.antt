@@ -2,7 +2,7 @@
 use Rattle.std.specs.Prelude.{Bool, List, [], ◌∷◌, ◌++◌, flat_map, codes}
 use Rattle.json.specs.Token.{Token, begin_object}
 use Rattle.cargo_workspaces.specs.Workspaces.{Text, PackageText}
-use Rattle.line_parts.specs.Members.{flag_member, object_line, text_member, texts_member}
+use Rattle.plan_lines.specs.parts.Members.{flag_member, object_line, text_member, texts_member}
 use Rattle.duplicate_lines.specs.Lines.{manifest_line}
 use Rattle.duplicate_lines.specs.Shown.{ShownText, version, in_place, alone, joined, refused, kind_of, package_of}
 

@@ -1,7 +1,7 @@
 //! The duplicates of a plan, as JSON objects.
 ghost use Rattle.std.specs.Prelude.{◌≡◌, ◌++◌, IfOk, OnOk, map, flat_map};
 ghost use Rattle.cargo_workspaces.specs.Views.{package_text, texts};
-ghost use Rattle.line_parts.specs.Members.{Appends};
+ghost use Rattle.plan_lines.specs.parts.Members.{Appends};
 ghost use Rattle.duplicate_lines.specs.Objects as spec;
 ghost use Rattle.duplicate_lines.specs.Views.{shown_text};
 
@@ -10,7 +10,7 @@ use crate::rows::{kind_of, package_of};
 use crate::shown::Shown;
 use cargo_workspaces::Package;
 use json::Writer;
-use line_parts::{begin_line, end_line, write_flag, write_member, write_texts};
+use plan_lines::parts::{begin_line, end_line, write_flag, write_member, write_texts};
 use std::alloc::{AllocError, Global};
 
 /// Writes the kind of a line, and the id, the name and the version of its package.

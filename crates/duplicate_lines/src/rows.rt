@@ -2,7 +2,7 @@
 ghost use Rattle.std.specs.Prelude.{◌≡◌, List, IfOk, map, string_bytes};
 ghost use Rattle.cargo_workspaces.specs.Workspaces.{Text};
 ghost use Rattle.cargo_workspaces.specs.Views.{package_text, texts};
-ghost use Rattle.line_parts.specs.Views.{row_text};
+ghost use Rattle.plan_lines.specs.parts.Views.{row_text};
 ghost use Rattle.plan_lines.specs.Lines.{label_of as label_text};
 ghost use Rattle.plan_lines.specs.Repeats.{HasRepeated};
 ghost use Rattle.duplicate_lines.specs.Lines as spec;
@@ -12,7 +12,7 @@ ghost use Rattle.duplicate_lines.specs.Views.{shown_text};
 use crate::manifest_lines::{joined_detail, push_features};
 use crate::shown::Shown;
 use cargo_workspaces::Package;
-use line_parts::Row;
+use plan_lines::parts::Row;
 use plan_lines::label_of;
 use std::alloc::{AllocError, Global};
 use std::collections::BTreeSet;

@@ -2,7 +2,7 @@
 ghost use Rattle.std.specs.Prelude.{◌≡◌, ◌++◌, List, IfOk, map, string_bytes};
 ghost use Rattle.cargo_workspaces.specs.Workspaces.{Text};
 ghost use Rattle.cargo_workspaces.specs.Views.{package_text};
-ghost use Rattle.line_parts.specs.Views.{row_text};
+ghost use Rattle.plan_lines.specs.parts.Views.{row_text};
 ghost use Rattle.plan_lines.specs.Lines.{name_of};
 ghost use Rattle.plan_lines.specs.Repeats.{HasRepeated};
 ghost use Rattle.duplicate_lines.specs.Lines as spec;
@@ -11,7 +11,7 @@ ghost use Rattle.duplicate_lines.specs.Views.{shown_text};
 use crate::rows::row_of;
 use crate::shown::Shown;
 use cargo_workspaces::Package;
-use line_parts::{Row, table_of};
+use plan_lines::parts::{Row, table_of};
 use plan_lines::{names_of, repeated_in};
 use std::alloc::{AllocError, Global};
 use std::collections::BTreeSet;

@@ -20,7 +20,7 @@ use feats_comparisons::{
 use feats_files::{
     Ended, Fault, PlatformFile, bytes_of, no_command, not_text, refused, unopened, write_answer,
 };
-use feats_tool::{PlanFiles, command_arguments, platform_file, run};
+use feats_plans::tool::{PlanFiles, command_arguments, platform_file, run};
 use feats_words::{CommandArguments, PlatformWord, Question, Request, ResolverSource, parse};
 use shown_texts::escaped;
 use std::alloc::{AllocError, Global};

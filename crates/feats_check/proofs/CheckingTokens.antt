@@ -4,7 +4,7 @@ use Rattle.std.specs.Prelude.{IfOk, OnOk}
 use Rattle.cargo_workspaces.specs.Workspaces.{PackageText}
 use Rattle.json.specs.Token.{Token}
 use Rattle.json.specs.Written.{Written, Writes}
-use Rattle.line_parts.specs.Members.{Appends, object_line}
+use Rattle.plan_lines.specs.parts.Members.{Appends, object_line}
 use Rattle.plan_whys.specs.Steps.{WhyText}
 use Rattle.why_lines.specs.Objects as why
 use Rattle.why_lines.specs.Settings.{SettingsText}

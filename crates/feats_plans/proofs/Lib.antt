@@ -6,4 +6,5 @@ pub mod Says
 pub mod Sound
 pub mod Stages
 pub mod Steps
+pub mod Writing
 pub mod Zips

@@ -7,3 +7,4 @@ pub mod PlannedView
 pub mod Planning
 pub mod Selections
 pub mod numbered_workspaces
+pub mod tool

@@ -1,6 +1,7 @@
 //! The plan that a command line asks for: made from the bytes of its files and of a document, and passed to a visitor.
 #![tactic(auto)]
 
+pub mod tool;
 mod basis;
 mod document_messages;
 mod documents;

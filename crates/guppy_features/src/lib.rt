@@ -3,6 +3,7 @@
 //! contracts.
 #![tactic(auto)]
 
+pub mod platforms;
 mod listed_filters;
 mod platform_visitor;
 

@@ -9,9 +9,9 @@ use Rattle.cargo_plans.specs.plan_starts.PackageVisits.{is_on}
 use Rattle.cargo_plans.specs.plan_steps.Plans.{PlanText}
 use Rattle.cargo_plans.specs.Plans.{WordsText}
 use Rattle.laws.specs.plans.Widening.{IsOffInPlan, IsWidest, NoSelectionTurnsOn}
-use Rattle.wider_selections.specs.widenings.Findings.{are_some, sides_of}
-use Rattle.wider_selections.specs.widenings.Widenings.{widened}
-use Rattle.wider_selections.specs.declared.widenings.widening.Widening.TheVariants as widening
+use Rattle.plan_names.specs.wider.widenings.Findings.{are_some, sides_of}
+use Rattle.plan_names.specs.wider.widenings.Widenings.{widened}
+use Rattle.plan_names.specs.declared.wider.widenings.widening.Widening.TheVariants as widening
 use Rattle.laws.specs.plans.NoChoice.{HoldsEach, NoChoiceTurnsOn}
 use Rattle.laws.proofs.DeclaredSpecs.{left_true, named}
 

@@ -6,18 +6,18 @@ use Rattle.cargo_plans.specs.Plans.{WordsText}
 use Rattle.feats_words.specs.declared.command_arguments.Format.TheVariants as format
 use Rattle.laws.specs.plans.NoChoice.{NoChoiceTurnsOn}
 use Rattle.laws.specs.plans.Sentence.{SentenceIsTrue}
-use Rattle.wider_selections.specs.widenings.Findings.{IsOffEverywhere}
-use Rattle.wider_selections.specs.widenings.Widenings.{widened, widenings}
-use Rattle.wider_selections.specs.declared.widenings.widening.Widening.{Widening}
-use Rattle.wider_selections.specs.declared.widenings.widening.Widening.TheVariants as widening
+use Rattle.plan_names.specs.wider.widenings.Findings.{IsOffEverywhere}
+use Rattle.plan_names.specs.wider.widenings.Widenings.{widened, widenings}
+use Rattle.plan_names.specs.declared.wider.widenings.widening.Widening.{Widening}
+use Rattle.plan_names.specs.declared.wider.widenings.widening.Widening.TheVariants as widening
 use Rattle.why_nots.specs.Answers.{AnswerText, IsAnswer, explained, message_in, not_planned, off, unbuilt}
 use Rattle.why_nots.specs.Lines.{said_of}
 use Rattle.why_nots.specs.Parts.{PartText, title_of}
 use Rattle.why_nots.specs.Texts.{IsWhyNotText, head_text}
 use Rattle.why_nots.specs.Tries.{TypedText}
-use Rattle.wider_selections.specs.texts.Laws.{EndsWithLine, SentenceSaysOff}
-use Rattle.wider_selections.specs.texts.Lines.{SaidText, sentence, why_not_lines, widening_lines}
-use Rattle.wider_selections.specs.texts.Lines as said
+use Rattle.plan_names.specs.wider.texts.Laws.{EndsWithLine, SentenceSaysOff}
+use Rattle.plan_names.specs.wider.texts.Lines.{SaidText, sentence, why_not_lines, widening_lines}
+use Rattle.plan_names.specs.wider.texts.Lines as said
 
 same_sections : (f g : Widening → Text) → ((v : Widening) → f v ≡ g v) → (vs : List Widening) → flat_map f vs ≡ flat_map g vs
 same_sections f g same [] = refl

@@ -3,3 +3,4 @@ pub mod Objects
 pub mod Repeats
 pub mod Views
 pub mod inner
+pub mod parts

@@ -1,6 +1,7 @@
 //! The lines that show a plan: as text in columns, or as JSON objects.
 #![tactic(auto)]
 
+pub mod parts;
 mod labels;
 mod names;
 mod objects;

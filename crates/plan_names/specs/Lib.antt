@@ -4,3 +4,4 @@ pub mod Names
 pub mod Suggestions
 pub mod Views
 pub mod inner
+pub mod wider

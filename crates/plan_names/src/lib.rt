@@ -1,6 +1,7 @@
 //! What words name: packages, features of packages, and optional dependencies.
 #![tactic(auto)]
 
+pub mod wider;
 mod fault;
 mod marks;
 mod matches;

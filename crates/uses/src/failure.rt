@@ -1,6 +1,6 @@
 //! The error of an example.
 use byte_devices::ReadError;
-use graph_platforms::PlatformFault;
+use guppy_features::platforms::PlatformFault;
 use guppy_features::Error;
 use platform_specs::CfgFault;
 use row_files::RowFileError;

@@ -2,8 +2,8 @@
 use Rattle.std.proofs.Common.{◌≡◌, ℕ, ◌+◌, ◌<◌, List, [], ◌∷◌, ◌++◌, append-nil, get_or, length, map, refl, subst, sym, take}
 use Rattle.std.specs.List.{AllZip}
 use Rattle.cargo_workspaces.specs.Workspaces.{Text}
-use Rattle.wider_selections.specs.widenings.Widenings.{widenings}
-use Rattle.wider_selections.specs.declared.widenings.widening.Widening.{Widening}
+use Rattle.plan_names.specs.wider.widenings.Widenings.{widenings}
+use Rattle.plan_names.specs.declared.wider.widenings.widening.Widening.{Widening}
 use Rattle.why_nots.specs.inner.Lists.{joined}
 use Rattle.why_nots.proofs.Gathered.{AllAreSaid, AreSaidSo, all_said, said_step}
 

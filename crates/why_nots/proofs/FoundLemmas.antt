@@ -22,7 +22,7 @@ use Rattle.plan_whys.specs.Steps.{SpotText, WhyText}
 use Rattle.plan_whys.specs.Whys.{Answers, AnswersBy, AnswersEachBy}
 use Rattle.plan_whys.specs.declared.steps.Spot.{Spot}
 use Rattle.plan_whys.specs.declared.steps.WhyStep.{WhyStep}
-use Rattle.wider_selections.specs.declared.widenings.widening.Widening.{Widening}
+use Rattle.plan_names.specs.declared.wider.widenings.widening.Widening.{Widening}
 use Rattle.why_nots.specs.Answers.{AnswerText, IsAnswer, lacking_in, message_in, message_on, not_planned, off}
 use Rattle.why_nots.specs.PartView.{part_text}
 use Rattle.why_nots.specs.Parts.{PartText, spot_on}

@@ -2,9 +2,9 @@
 use Rattle.std.proofs.Common.{◌≡◌, ◌∙◌, ap, sym, refl, subst, ℕ, ◌+◌, ◌<◌, List, [], ◌∷◌, ◌++◌, append_assoc, flat_map, get_or, length, take}
 use Rattle.std.specs.List.{AllZip}
 use Rattle.std.proofs.lemmas.List.{append-nil, take_more}
-use Rattle.wider_selections.specs.widenings.Widenings.{widenings}
-use Rattle.wider_selections.specs.declared.widenings.widening.Widening.{Widening}
-use Rattle.wider_selections.specs.declared.widenings.widening.Widening.TheVariants as widening
+use Rattle.plan_names.specs.wider.widenings.Widenings.{widenings}
+use Rattle.plan_names.specs.declared.wider.widenings.widening.Widening.{Widening}
+use Rattle.plan_names.specs.declared.wider.widenings.widening.Widening.TheVariants as widening
 
 -- the texts of pairs, one after the other
 abbrev pub texts_of : {X : Type 0} → (Widening → X → List ℕ) → List Widening → List X → List ℕ

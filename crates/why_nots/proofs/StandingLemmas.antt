@@ -6,7 +6,7 @@ use Rattle.cargo_plans.specs.plan_starts.PackageVisits.{is_on}
 use Rattle.cargo_plans.specs.plan_steps.Plans.{PlanText}
 use Rattle.plan_rows.specs.declared.side.Side.{Side}
 use Rattle.plan_rows.specs.declared.side.Side.TheVariants.{Host, Target}
-use Rattle.wider_selections.specs.widenings.Findings.{are_some, sides_of}
+use Rattle.plan_names.specs.wider.widenings.Findings.{are_some, sides_of}
 use Rattle.why_nots.specs.Parts.{PartText}
 use Rattle.why_nots.specs.Standings.{built_on, off, standing_by, standing_of}
 

@@ -3,7 +3,7 @@ use Rattle.std.proofs.Common.{◌≡◌, ◌∙◌, ap, List, [], ◌∷◌, ◌
 use Rattle.std.specs.Prelude.{OnOk}
 use Rattle.json.specs.Token.{Token}
 use Rattle.json.specs.Written.{Written, Writes}
-use Rattle.line_parts.specs.Members.{Appends, optional_member, text_member}
+use Rattle.plan_lines.specs.parts.Members.{Appends, optional_member, text_member}
 use Rattle.cargo_workspaces.specs.Workspaces.{PackageText, Text}
 use Rattle.plan_whys.specs.Steps.{WhyText}
 use Rattle.why_lines.specs.Objects as why

@@ -11,7 +11,7 @@ use Rattle.feats_files.specs.plan_messages.Messages.{plan_message}
 use Rattle.plan_rows.specs.declared.side.Side.{Side}
 use Rattle.plan_whys.specs.Steps.{WhyText}
 use Rattle.plan_whys.specs.Whys.{AnswersBy}
-use Rattle.wider_selections.specs.widenings.Findings.{IsOff}
+use Rattle.plan_names.specs.wider.widenings.Findings.{IsOff}
 use Rattle.why_lines.specs.Unbuilt.{unbuilt_message}
 use Rattle.why_nots.specs.Parts.{PartText, spot_on}
 use Rattle.why_nots.specs.Standings.{built_on, standing_of, unbuilt_on}

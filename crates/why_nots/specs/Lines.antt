@@ -2,8 +2,8 @@
 use Rattle.std.specs.Prelude.{List, Option, ◌++◌}
 use Rattle.cargo_workspaces.specs.Workspaces.{PackageText}
 use Rattle.cargo_plans.specs.Plans.{WordsText}
-use Rattle.wider_selections.specs.texts.Lines.{SaidText}
-use Rattle.wider_selections.specs.texts.Lines as said
+use Rattle.plan_names.specs.wider.texts.Lines.{SaidText}
+use Rattle.plan_names.specs.wider.texts.Lines as said
 use Rattle.why_lines.specs.Lines.{why_lines}
 use Rattle.why_lines.specs.Settings.{SettingsText}
 use Rattle.why_nots.specs.Answers.{AnswerText, explained, not_planned, off, unbuilt}

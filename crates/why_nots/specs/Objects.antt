@@ -3,9 +3,9 @@ use Rattle.std.specs.Prelude.{List, [], ◌∷◌, ◌++◌, true, false, codes,
 use Rattle.json.specs.Token.{Token, begin_array, end_array, key, null}
 use Rattle.cargo_workspaces.specs.Workspaces.{Text, PackageText}
 use Rattle.cargo_plans.specs.Plans.{WordsText}
-use Rattle.line_parts.specs.Members.{flag_member, optional_member, text_member}
-use Rattle.wider_selections.specs.declared.widenings.widening.Widening.{Widening}
-use Rattle.wider_selections.specs.declared.widenings.widening.Widening.TheVariants as widening
+use Rattle.plan_lines.specs.parts.Members.{flag_member, optional_member, text_member}
+use Rattle.plan_names.specs.declared.wider.widenings.widening.Widening.{Widening}
+use Rattle.plan_names.specs.declared.wider.widenings.widening.Widening.TheVariants as widening
 use Rattle.plan_whys.specs.Steps.{WhyText}
 use Rattle.why_lines.specs.Objects.{dependency_name, feature_name, id_at, step_objects}
 use Rattle.why_nots.specs.Answers.{AnswerText, explained, not_planned, off, unbuilt}

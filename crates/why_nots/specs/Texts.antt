@@ -6,10 +6,10 @@ use Rattle.cargo_plans.specs.plan_steps.Plans.{PlanText}
 use Rattle.cargo_plans.specs.Plans.{IsPlanOf, WordsText}
 use Rattle.feats_words.specs.declared.command_arguments.Format.{Format}
 use Rattle.feats_words.specs.declared.command_arguments.Format.TheVariants as format
-use Rattle.line_parts.specs.Members.{object_line}
-use Rattle.wider_selections.specs.widenings.Widenings.{widened, widenings}
-use Rattle.wider_selections.specs.declared.widenings.widening.Widening.{Widening}
-use Rattle.wider_selections.specs.texts.Lines.{head_line, widening_lines}
+use Rattle.plan_lines.specs.parts.Members.{object_line}
+use Rattle.plan_names.specs.wider.widenings.Widenings.{widened, widenings}
+use Rattle.plan_names.specs.declared.wider.widenings.widening.Widening.{Widening}
+use Rattle.plan_names.specs.wider.texts.Lines.{head_line, widening_lines}
 use Rattle.why_nots.specs.Answers.{AnswerText, IsAnswer, message_in}
 use Rattle.why_nots.specs.Lines.{said_of}
 use Rattle.why_nots.specs.Objects.{answer_tokens, head_tokens}

@@ -6,7 +6,7 @@ ghost use Rattle.cargo_plans.specs.WordsView.{words_text};
 ghost use Rattle.cargo_plans.specs.plan_steps.PlanViews.{plan_text};
 ghost use Rattle.cargo_workspaces.specs.WorkspaceView.{workspace_text};
 ghost use Rattle.plan_rows.specs.platforms.HeldSpecs.{holds_on};
-ghost use Rattle.wider_selections.specs.widenings.Widenings as spec;
+ghost use Rattle.plan_names.specs.wider.widenings.Widenings as spec;
 ghost use Rattle.why_nots.specs.PartView.{part_text};
 ghost use Rattle.why_nots.specs.Texts.{IsSection};
 ghost use Rattle.why_nots.specs.inner.Lists.{texts_of};
@@ -18,7 +18,7 @@ use cargo_workspaces::Workspace;
 use feats_words::Format;
 use plan_rows::platforms::HeldSpecs;
 use std::alloc::{AllocError, Global};
-use wider_selections::widenings::{Widening, adds, widened};
+use plan_names::wider::widenings::{Widening, adds, widened};
 
 /// The build in which parts are off.
 #[derive(Clone, Copy)]

@@ -2,7 +2,7 @@
 ghost use Rattle.std.specs.Prelude.{◌≡◌, OnOk, option_map};
 ghost use Rattle.cargo_workspaces.specs.WorkspaceView.{workspace_text};
 ghost use Rattle.feature_labels.specs.Names.{label_of};
-ghost use Rattle.line_parts.specs.Members.{Appends};
+ghost use Rattle.plan_lines.specs.parts.Members.{Appends};
 ghost use Rattle.why_lines.specs.Objects as names;
 ghost use Rattle.why_nots.specs.Objects as spec;
 ghost use Rattle.why_nots.specs.PartView.{part_text};
@@ -11,9 +11,9 @@ use crate::parts::OffPart;
 use cargo_workspaces::Workspace;
 use feature_labels::FeatureLabel;
 use json::Writer;
-use line_parts::{write_member, write_optional};
+use plan_lines::parts::{write_member, write_optional};
 use std::alloc::AllocError;
-use wider_selections::widenings::Widening;
+use plan_names::wider::widenings::Widening;
 
 /// Returns the id of package `ix`; nothing, if there is no such package.
 fn id_at<'w>(workspace: &'w Workspace<'_>, ix: usize) -> &'w str

@@ -3,7 +3,7 @@ ghost use Rattle.std.specs.Prelude.{◌≡◌, ◌++◌, ◌∷◌, IfOk, OnOk, 
 ghost use Rattle.json.specs.Token.{begin_object};
 ghost use Rattle.cargo_plans.specs.WordsView.{words_text};
 ghost use Rattle.cargo_workspaces.specs.WorkspaceView.{workspace_text};
-ghost use Rattle.line_parts.specs.Members.{Appends, object_line};
+ghost use Rattle.plan_lines.specs.parts.Members.{Appends, object_line};
 ghost use Rattle.plan_rows.specs.platforms.HeldSpecs.{holds_on};
 ghost use Rattle.plan_whys.specs.StepViews.{why_text};
 ghost use Rattle.why_lines.specs.Objects.{step_objects};
@@ -21,12 +21,12 @@ use crate::typed_words::{TypedWords, typed_text};
 use cargo_plans::PlanWords;
 use cargo_workspaces::Workspace;
 use json::Writer;
-use line_parts::{begin_line, end_line, write_flag, write_member, write_optional};
+use plan_lines::parts::{begin_line, end_line, write_flag, write_member, write_optional};
 use plan_rows::platforms::HeldSpecs;
 use plan_whys::WhyStep;
 use std::alloc::{AllocError, Global};
 use why_lines::write_steps;
-use wider_selections::widenings::Widening;
+use plan_names::wider::widenings::Widening;
 
 /// Writes the objects of `steps`.
 fn write_objects(

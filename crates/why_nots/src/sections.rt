@@ -4,8 +4,8 @@ ghost use Rattle.cargo_plans.specs.WordsView.{words_text};
 ghost use Rattle.cargo_workspaces.specs.WorkspaceView.{workspace_text};
 ghost use Rattle.plan_rows.specs.platforms.HeldSpecs.{holds_on};
 ghost use Rattle.plan_whys.specs.StepViews.{why_text};
-ghost use Rattle.wider_selections.specs.texts.Lines.{on_by, widening_lines};
-ghost use Rattle.wider_selections.specs.texts.SaidView.{said_text};
+ghost use Rattle.plan_names.specs.wider.texts.Lines.{on_by, widening_lines};
+ghost use Rattle.plan_names.specs.wider.texts.SaidView.{said_text};
 ghost use Rattle.why_lines.specs.Lines.{why_lines as lines_of};
 ghost use Rattle.why_nots.specs.Lines.{said_of, settings_of as settings_by};
 ghost use Rattle.why_nots.specs.Typed.{typed_line};
@@ -24,8 +24,8 @@ use plan_whys::WhyStep;
 use shown_texts::escaped;
 use std::alloc::{AllocError, Global};
 use why_lines::why_lines;
-use wider_selections::texts::{Said, push_widening};
-use wider_selections::widenings::Widening;
+use plan_names::wider::texts::{Said, push_widening};
+use plan_names::wider::widenings::Widening;
 
 /// Returns the lines about `widening`, which say `said`.
 fn lines_by(alloc: Global, widening: Widening, said: Said<'_>) -> Result<Vec<u8>, AllocError>

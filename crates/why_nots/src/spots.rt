@@ -14,7 +14,7 @@ use cargo_plans::Plan;
 use plan_rows::Side;
 use plan_whys::Spot;
 use std::alloc::{AllocError, Global};
-use wider_selections::widenings::sides_of;
+use plan_names::wider::widenings::sides_of;
 
 /// Returns `part` on the side on which it is built; on the target side, if it isn't.
 fn first_spot<'w>(builds: &Builds<'_>, part: OffPart<'w>) -> Spot<'w>

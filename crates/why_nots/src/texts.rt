@@ -7,8 +7,8 @@ ghost use Rattle.cargo_plans.specs.plan_steps.PlanViews.{plan_text};
 ghost use Rattle.cargo_workspaces.specs.Workspaces.{Text};
 ghost use Rattle.cargo_workspaces.specs.WorkspaceView.{workspace_text};
 ghost use Rattle.plan_rows.specs.platforms.HeldSpecs.{holds_on};
-ghost use Rattle.wider_selections.specs.widenings.Widenings.{widened};
-ghost use Rattle.wider_selections.specs.texts.Lines.{head_line};
+ghost use Rattle.plan_names.specs.wider.widenings.Widenings.{widened};
+ghost use Rattle.plan_names.specs.wider.texts.Lines.{head_line};
 ghost use Rattle.why_nots.specs.PartView.{part_text};
 ghost use Rattle.why_nots.specs.Texts as spec;
 ghost use Rattle.why_nots.specs.Typed as words_to_type;
@@ -24,8 +24,8 @@ use cargo_workspaces::Workspace;
 use feats_words::Format;
 use plan_rows::platforms::HeldSpecs;
 use std::alloc::{AllocError, Global};
-use wider_selections::texts::push_head;
-use wider_selections::widenings::Widening;
+use plan_names::wider::texts::push_head;
+use plan_names::wider::widenings::Widening;
 
 /// Returns the line that says that `name` is off, or the message about it.
 fn head_line_of(alloc: Global, name: &str, message: Option<&str>) -> Result<Vec<u8>, AllocError>

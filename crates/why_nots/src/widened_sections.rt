@@ -30,7 +30,7 @@ use feats_words::Format;
 use plan_rows::platforms::HeldSpecs;
 use plan_whys::why_each;
 use std::alloc::{AllocError, Global};
-use wider_selections::widenings::Widening;
+use plan_names::wider::widenings::Widening;
 
 /// Returns the sections about `widening`, whose words are `words`, and the part of each of `tolds`.
 fn told_sections(

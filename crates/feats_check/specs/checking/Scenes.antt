@@ -3,8 +3,8 @@ use Rattle.std.specs.Prelude.{◌≡◌, ℕ, List, Bool, Option, Some, None, �
 use Rattle.cargo_plans.specs.Plans.{IsPlanOf, WordsText}
 use Rattle.cargo_workspaces.specs.Workspaces.{Text, WorkspaceText}
 use Rattle.cargo_plans.specs.plan_steps.Plans.{PlanText}
-use Rattle.wider_selections.specs.widenings.Widenings.{widened}
-use Rattle.wider_selections.specs.declared.widenings.widening.Widening.TheVariants as widening
+use Rattle.plan_names.specs.wider.widenings.Widenings.{widened}
+use Rattle.plan_names.specs.declared.wider.widenings.widening.Widening.TheVariants as widening
 use Rattle.policies.specs.Rules.{KindText, RuleText, deny, deny_duplicates, require}
 use Rattle.policies.specs.checks.Builds.{BuildText}
 use Rattle.policies.specs.declared.checks.judged.Judged.{Judged}

@@ -5,7 +5,7 @@ use Rattle.cargo_plans.specs.Plans.{WordsText}
 use Rattle.cargo_workspaces.specs.Workspaces.{PackageText, Text}
 use Rattle.feats_words.specs.declared.command_arguments.Format.{Format}
 use Rattle.feats_words.specs.declared.command_arguments.Format.TheVariants as format
-use Rattle.line_parts.specs.Members.{object_line}
+use Rattle.plan_lines.specs.parts.Members.{object_line}
 use Rattle.plan_whys.specs.Steps.{WhyText}
 use Rattle.policies.specs.Rules.{RuleText}
 use Rattle.feats_check.specs.texts.Lines.{verdict_lines}

@@ -1,7 +1,7 @@
 -- The JSON objects of broken rules.
 use Rattle.std.specs.Prelude.{List, ◌∷◌, ◌++◌, Option, None, codes}
 use Rattle.json.specs.Token.{Token, begin_object}
-use Rattle.line_parts.specs.Members.{number_member, object_line, optional_member, text_member}
+use Rattle.plan_lines.specs.parts.Members.{number_member, object_line, optional_member, text_member}
 use Rattle.policies.specs.Lines.{Text}
 use Rattle.policies.specs.Rules.{KindText, RuleText, deny, deny_duplicates, require}
 use Rattle.policies.specs.declared.checks.judged.Judged.{Judged}

@@ -3,7 +3,7 @@ ghost use Rattle.std.specs.Prelude.{◌≡◌, ◌++◌, ◌∷◌, IfOk, OnOk, 
 ghost use Rattle.cargo_plans.specs.WordsView.{words_text};
 ghost use Rattle.cargo_workspaces.specs.WorkspaceView.{workspace_text};
 ghost use Rattle.json.specs.Token.{begin_object};
-ghost use Rattle.line_parts.specs.Members.{Appends, object_line};
+ghost use Rattle.plan_lines.specs.parts.Members.{Appends, object_line};
 ghost use Rattle.plan_rows.specs.platforms.HeldSpecs.{holds_on};
 ghost use Rattle.plan_whys.specs.StepViews.{found_text, why_text};
 ghost use Rattle.policies.specs.Views.{rule_text};
@@ -16,7 +16,7 @@ use crate::texts::write_rule;
 use cargo_plans::PlanWords;
 use cargo_workspaces::Workspace;
 use json::Writer;
-use line_parts::{begin_line, end_line};
+use plan_lines::parts::{begin_line, end_line};
 use plan_rows::platforms::HeldSpecs;
 use plan_whys::WhyStep;
 use policies::Rule;

@@ -17,7 +17,7 @@ use feats_files::plan_messages::plan_refused;
 use plan_rows::platforms::HeldSpecs;
 use policies::checks::Judged;
 use std::alloc::Global;
-use wider_selections::widenings::{Widening, widened};
+use plan_names::wider::widenings::{Widening, widened};
 
 /// A plan, its words, and the build that it is of.
 #[derive(Clone, Copy)]

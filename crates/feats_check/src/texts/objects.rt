@@ -1,11 +1,11 @@
 //! Broken rules as JSON objects.
 ghost use Rattle.std.specs.Prelude.{◌≡◌, ◌++◌, IfOk, OnOk, option_map};
-ghost use Rattle.line_parts.specs.Members.{Appends};
+ghost use Rattle.plan_lines.specs.parts.Members.{Appends};
 ghost use Rattle.policies.specs.Views.{kind_text, rule_text};
 ghost use Rattle.feats_check.specs.texts.Objects as spec;
 
 use json::Writer;
-use line_parts::{begin_line, end_line, write_member, write_number, write_optional};
+use plan_lines::parts::{begin_line, end_line, write_member, write_number, write_optional};
 use policies::checks::Judged;
 use policies::{Rule, RuleKind};
 use std::alloc::AllocError;

@@ -7,7 +7,7 @@ use Rattle.plan_rows.specs.platforms.HeldSpecs.{is_declared}
 use Rattle.cargo_plans.specs.plan_steps.Plans.{PlanText}
 use Rattle.cargo_plans.specs.Plans.{IsPlanOf, WordsText}
 use Rattle.laws.specs.plans.Widening.{IsCovered, IsOffInPlan}
-use Rattle.wider_selections.specs.widenings.Findings.{IsOffEverywhere}
+use Rattle.plan_names.specs.wider.widenings.Findings.{IsOffEverywhere}
 
 -- Each platform spec that a declaration of the workspace names holds.
 abbrev pub HoldsEach : WorkspaceText → (Text → Bool) → Type 0

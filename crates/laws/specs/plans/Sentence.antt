@@ -8,8 +8,8 @@ use Rattle.laws.specs.plans.NoChoice.{HoldsEach}
 use Rattle.laws.specs.plans.Widening.{IsCovered, IsOffInPlan}
 use Rattle.why_nots.specs.Parts.{PartText}
 use Rattle.why_nots.specs.Texts.{IsWhyNotText}
-use Rattle.wider_selections.specs.texts.Laws.{EndsWithLine}
-use Rattle.wider_selections.specs.texts.Lines.{sentence}
+use Rattle.plan_names.specs.wider.texts.Laws.{EndsWithLine}
+use Rattle.plan_names.specs.wider.texts.Lines.{sentence}
 
 -- THE SENTENCE IS TRUE: if it is the last line of a text of `why-not`, the text's part is off in each plan by words that those of the command
 -- line cover.

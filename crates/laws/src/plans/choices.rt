@@ -3,7 +3,7 @@ ghost use Rattle.laws.specs.plans.NoChoice.{NoChoiceTurnsOn};
 ghost use Rattle.laws.specs.plans.Sentence.{SentenceIsTrue};
 
 use crate::plans::laws::no_selection_turns_on;
-use wider_selections::texts::sentence_says_off;
+use plan_names::wider::texts::sentence_says_off;
 
 /// States that no choice of members, features of members, tests and platforms turns on what is off with all widenings of a command line
 /// together.

@@ -13,8 +13,8 @@ use Rattle.plan_rows.specs.declared.side.Side.{Side}
 use Rattle.plan_rows.specs.declared.side.Side.TheVariants.{Target}
 use Rattle.plan_whys.specs.StepViews.{why_text}
 use Rattle.plan_whys.specs.Steps.{SpotText, WhyText}
-use Rattle.wider_selections.specs.widenings.Findings.{are_some, sides_of}
-use Rattle.wider_selections.specs.declared.widenings.widening.Widening.{Widening}
+use Rattle.plan_names.specs.wider.widenings.Findings.{are_some, sides_of}
+use Rattle.plan_names.specs.declared.wider.widenings.widening.Widening.{Widening}
 use Rattle.why_lines.specs.Unbuilt.{unbuilt_message}
 use Rattle.why_nots.specs.Answers.{AnswerText, explained, not_planned, off, unbuilt}
 use Rattle.why_nots.specs.PartView.{part_text}

@@ -2,7 +2,7 @@ use Rattle.std.proofs.Common.{◌≡◌, ◌∙◌, List, ap, subst}
 use Rattle.cargo_workspaces.specs.Views.{package_text}
 use Rattle.cargo_workspaces.specs.Workspaces.{Text}
 use Rattle.json.specs.Token.{Token}
-use Rattle.line_parts.specs.Members.{Appends}
+use Rattle.plan_lines.specs.parts.Members.{Appends}
 use Rattle.duplicate_lines.specs.Objects.{head}
 use Rattle.duplicate_lines.specs.Shown.{kind_of, package_of}
 use Rattle.duplicate_lines.specs.Views.{shown_text}

@@ -1,6 +1,6 @@
 use Rattle.std.proofs.Common.{◌≡◌, ◌++◌, List, map, drop}
 use Rattle.cargo_workspaces.specs.Workspaces.{Text}
-use Rattle.line_parts.specs.Views.{row_text}
+use Rattle.plan_lines.specs.parts.Views.{row_text}
 use Rattle.plan_lines.specs.Repeats.{HasRepeated}
 use Rattle.duplicate_lines.specs.Lines.{row_of}
 use Rattle.duplicate_lines.specs.Views.{shown_text}

@@ -11,11 +11,11 @@ use Rattle.why_nots.specs.Texts.{IsWhyNotText}
 use Rattle.cargo_plans.specs.WordsView.{words_text}
 use Rattle.cargo_workspaces.specs.WorkspaceView.{workspace_text}
 use Rattle.plan_rows.specs.platforms.HeldSpecs.{holds_on}
-use Rattle.wider_selections.specs.widenings.Widenings.{widened}
+use Rattle.plan_names.specs.wider.widenings.Widenings.{widened}
 use Rattle.why_nots.specs.PartView.{part_text}
 use Rattle.why_nots.specs.Texts.{IsSection, head_text}
 use Rattle.why_nots.specs.inner.Lists.{texts_of}
-use Rattle.wider_selections.specs.declared.widenings.widening.Widening.{Widening}
+use Rattle.plan_names.specs.declared.wider.widenings.widening.Widening.{Widening}
 use Rattle.why_nots.specs.inner.Lists.{joined}
 use Rattle.why_nots.proofs.Each.{IsSo, all_done, begun, each_step}
 use Rattle.why_nots.proofs.Gathered.{AllAreSaid}

@@ -1,8 +1,0 @@
--- The value that an answer with its warnings contains.
-use Rattle.feats_answers.specs.AnswerViews.{answer_text}
-use Rattle.feats_check.specs.checking.WarningViews.{string_texts}
-use Rattle.feats_tool.specs.Answers.{AnsweredText}
-use Rattle.feats_tool.specs.declared.answered.Answered.{Answered}
-
-abbrev pub answered_text : Answered → AnsweredText
-answered_text a = record { answer = answer_text a.answer; warnings = string_texts a.warnings.items }

@@ -1,6 +1,0 @@
-use Rattle.std.proofs.Common.{◌≡◌, ◌++◌, drop}
-use Rattle.wider_selections.specs.texts.Lines.{indented_from}
-use Rattle.wider_selections.proofs.texts.lines.push_indented.Given as goal
-
-abbrev pub invariant-loop-byte : goal.invariant-loop-byte
-invariant-loop-byte l = l.initial.text.items ++ indented_from l.initial.at_start l.byte-items ≡ l.text.items ++ indented_from l.starts (drop l.byte-index l.byte-items)
