@@ -7,13 +7,15 @@
 //! `feats --version` prints the version, and whether the program is proved.
 #![tactic(auto)]
 
+mod comparisons;
+
 ghost use Rattle.std.specs.Prelude.{◌≡◌, false, IfOk};
 ghost use Rattle.byte_devices.specs.StdDevices.{read_failed};
 
 use byte_devices::{ByteInput, FromReader, ToWriter};
 use clap::Error;
 use clap::error::ErrorKind as MistakeKind;
-use feats_comparisons::{
+use crate::comparisons::{
     SideInputs, compared_requests, compared_words, one_format, run as run_difference,
     run_by_one_document,
 };

@@ -1,0 +1,9 @@
+pub mod Builds
+pub mod CommandLines
+pub mod Comparisons
+pub mod Documents
+pub mod Formats
+pub mod Run
+pub mod Sides
+pub mod SideView
+pub mod differences

@@ -1,8 +1,0 @@
-use Rattle.std.proofs.Common.{◌≡◌, ◌++◌, map, drop}
-use Rattle.std.specs.String.{string_bytes}
-use Rattle.feats_comparisons.specs.differences.Whys.{without_feed}
-use Rattle.feats_comparisons.proofs.differences.whys.without_feeds.Given as goal
-
-abbrev pub invariant-loop-line : goal.invariant-loop-line
-invariant-loop-line l =
-    map without_feed (map string_bytes l.lines) ≡ map string_bytes l.whys.items ++ map without_feed (map string_bytes (drop l.line-index l.lines))
