@@ -1,0 +1,9 @@
+pub mod ChoiceWalks
+pub mod EntryLemmas
+pub mod NodeLemmas
+pub mod PlatformLemmas
+pub mod Pushed
+pub mod ReadBack
+pub mod SetLemmas
+pub mod StepLemmas
+pub mod WordLemmas

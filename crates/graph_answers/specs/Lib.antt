@@ -1,4 +1,0 @@
-pub mod requests
-pub mod answers
-pub mod binary
-pub mod records
