@@ -12,8 +12,8 @@ ghost use Rattle.duplicate_lines.specs.Views.{shown_text};
 use crate::manifest_lines::{joined_detail, push_features};
 use crate::shown::Shown;
 use cargo_workspaces::Package;
-use plan_lines::parts::Row;
 use plan_lines::label_of;
+use plan_lines::parts::Row;
 use std::alloc::{AllocError, Global};
 use std::collections::BTreeSet;
 

@@ -12,13 +12,13 @@ mod comparisons;
 ghost use Rattle.std.specs.Prelude.{◌≡◌, false, IfOk};
 ghost use Rattle.byte_devices.specs.StdDevices.{read_failed};
 
-use byte_devices::{ByteInput, FromReader, ToWriter};
-use clap::Error;
-use clap::error::ErrorKind as MistakeKind;
 use crate::comparisons::{
     SideInputs, compared_requests, compared_words, one_format, run as run_difference,
     run_by_one_document,
 };
+use byte_devices::{ByteInput, FromReader, ToWriter};
+use clap::Error;
+use clap::error::ErrorKind as MistakeKind;
 use feats_files::{
     Ended, Fault, PlatformFile, bytes_of, no_command, not_text, refused, unopened, write_answer,
 };

@@ -1,7 +1,6 @@
 //! The plan that a command line asks for: made from the bytes of its files and of a document, and passed to a visitor.
 #![tactic(auto)]
 
-pub mod tool;
 mod basis;
 mod document_messages;
 mod documents;
@@ -9,6 +8,7 @@ mod inputs;
 pub mod numbered_workspaces;
 mod planned;
 mod planning;
+pub mod tool;
 mod visits;
 
 pub use inputs::{PlanFiles, platform_file};

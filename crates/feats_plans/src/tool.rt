@@ -8,8 +8,8 @@ mod rules;
 mod visitor;
 mod word_faults;
 
+pub use crate::{PlanFiles, platform_file};
 pub use answered::{Answered, Outcome};
 pub use answers::answer;
 pub use engine::run;
-pub use crate::{PlanFiles, platform_file};
 pub use word_faults::command_arguments;

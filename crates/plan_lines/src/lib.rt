@@ -1,10 +1,10 @@
 //! The lines that show a plan: as text in columns, or as JSON objects.
 #![tactic(auto)]
 
-pub mod parts;
 mod labels;
 mod names;
 mod objects;
+pub mod parts;
 mod rows;
 mod shown;
 mod table;

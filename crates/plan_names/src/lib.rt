@@ -1,7 +1,6 @@
 //! What words name: packages, features of packages, and optional dependencies.
 #![tactic(auto)]
 
-pub mod wider;
 mod fault;
 mod marks;
 mod matches;
@@ -10,6 +9,7 @@ mod near;
 mod nearest_parts;
 mod package_parts;
 mod parts;
+pub mod wider;
 mod word_cuts;
 mod words;
 

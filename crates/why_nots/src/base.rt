@@ -16,9 +16,9 @@ use crate::widened_sections::{planned_sections, widened_sections};
 use cargo_plans::{Plan, PlanWords};
 use cargo_workspaces::Workspace;
 use feats_words::Format;
+use plan_names::wider::widenings::{Widening, adds, widened};
 use plan_rows::platforms::HeldSpecs;
 use std::alloc::{AllocError, Global};
-use plan_names::wider::widenings::{Widening, adds, widened};
 
 /// The build in which parts are off.
 #[derive(Clone, Copy)]

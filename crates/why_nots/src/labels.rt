@@ -12,8 +12,8 @@ use cargo_workspaces::Workspace;
 use feature_labels::FeatureLabel;
 use json::Writer;
 use plan_lines::parts::{write_member, write_optional};
-use std::alloc::AllocError;
 use plan_names::wider::widenings::Widening;
+use std::alloc::AllocError;
 
 /// Returns the id of package `ix`; nothing, if there is no such package.
 fn id_at<'w>(workspace: &'w Workspace<'_>, ix: usize) -> &'w str

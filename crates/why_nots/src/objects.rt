@@ -22,11 +22,11 @@ use cargo_plans::PlanWords;
 use cargo_workspaces::Workspace;
 use json::Writer;
 use plan_lines::parts::{begin_line, end_line, write_flag, write_member, write_optional};
+use plan_names::wider::widenings::Widening;
 use plan_rows::platforms::HeldSpecs;
 use plan_whys::WhyStep;
 use std::alloc::{AllocError, Global};
 use why_lines::write_steps;
-use plan_names::wider::widenings::Widening;
 
 /// Writes the objects of `steps`.
 fn write_objects(

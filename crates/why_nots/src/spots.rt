@@ -11,10 +11,10 @@ use crate::builds::Builds;
 use crate::parts::{OffPart, spot_on};
 use crate::standings::{Standing, standing_of};
 use cargo_plans::Plan;
+use plan_names::wider::widenings::sides_of;
 use plan_rows::Side;
 use plan_whys::Spot;
 use std::alloc::{AllocError, Global};
-use plan_names::wider::widenings::sides_of;
 
 /// Returns `part` on the side on which it is built; on the target side, if it isn't.
 fn first_spot<'w>(builds: &Builds<'_>, part: OffPart<'w>) -> Spot<'w>

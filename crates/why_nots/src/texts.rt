@@ -22,10 +22,10 @@ use crate::parts::{OffPart, titles_of};
 use cargo_plans::{Plan, PlanWords};
 use cargo_workspaces::Workspace;
 use feats_words::Format;
-use plan_rows::platforms::HeldSpecs;
-use std::alloc::{AllocError, Global};
 use plan_names::wider::texts::push_head;
 use plan_names::wider::widenings::Widening;
+use plan_rows::platforms::HeldSpecs;
+use std::alloc::{AllocError, Global};
 
 /// Returns the line that says that `name` is off, or the message about it.
 fn head_line_of(alloc: Global, name: &str, message: Option<&str>) -> Result<Vec<u8>, AllocError>

@@ -27,10 +27,10 @@ use cargo_plans::{Plan, PlanFault, PlanWords, plan};
 use cargo_workspaces::Workspace;
 use feats_files::plan_messages::is_memory;
 use feats_words::Format;
+use plan_names::wider::widenings::Widening;
 use plan_rows::platforms::HeldSpecs;
 use plan_whys::why_each;
 use std::alloc::{AllocError, Global};
-use plan_names::wider::widenings::Widening;
 
 /// Returns the sections about `widening`, whose words are `words`, and the part of each of `tolds`.
 fn told_sections(

@@ -14,10 +14,10 @@ use cargo_plans::{Plan, PlanFault, PlanWords, StepFault, plan};
 use cargo_workspaces::Workspace;
 use feats_files::Fault;
 use feats_files::plan_messages::plan_refused;
+use plan_names::wider::widenings::{Widening, widened};
 use plan_rows::platforms::HeldSpecs;
 use policies::checks::Judged;
 use std::alloc::Global;
-use plan_names::wider::widenings::{Widening, widened};
 
 /// A plan, its words, and the build that it is of.
 #[derive(Clone, Copy)]

@@ -10,8 +10,8 @@ use crate::texts::shown::{Difference, Turned};
 use crate::texts::titles::is_same;
 use cargo_workspaces::Package;
 use json::Writer;
-use plan_lines::parts::{begin_line, end_line, write_member, write_texts};
 use plan_lines::Shown;
+use plan_lines::parts::{begin_line, end_line, write_member, write_texts};
 use std::alloc::{AllocError, Global};
 
 /// Writes the kind of the difference, and the place and the package of `shown`.

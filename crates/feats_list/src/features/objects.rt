@@ -11,7 +11,9 @@ use crate::features::listed::{Listed, listed_package};
 use cargo_workspaces::Package;
 use feature_labels::FeatureLabel;
 use json::Writer;
-use plan_lines::parts::{begin_line, end_line, write_flag, write_member, write_optional, write_texts};
+use plan_lines::parts::{
+    begin_line, end_line, write_flag, write_member, write_optional, write_texts,
+};
 use std::alloc::{AllocError, Global};
 
 /// Returns the name of a feature.

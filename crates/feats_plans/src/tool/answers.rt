@@ -8,9 +8,9 @@ ghost use Rattle.feats_plans.specs.tool.Answers.{IsAnswer, IsNoAnswer, IsShown};
 use crate::tool::answered::Answered;
 use crate::tool::rules::rules_of;
 use crate::tool::visitor::AskedVisitor;
+use crate::{PlanFiles, visit_plan};
 use feats_answers::Answer;
 use feats_files::{Fault, shown_answer};
-use crate::{PlanFiles, visit_plan};
 use feats_words::CommandArguments;
 use std::alloc::Global;
 

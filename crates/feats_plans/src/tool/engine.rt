@@ -5,11 +5,11 @@ ghost use Rattle.feats_plans.specs.Inputs.{inputs_text};
 ghost use Rattle.feats_plans.specs.tool.Run.{Ends, HasAnswer};
 ghost use Rattle.feats_check.specs.checking.WarningViews.{string_texts};
 
+use crate::PlanFiles;
 use crate::tool::answered::{Answered, Outcome};
 use crate::tool::answers::shown;
 use byte_devices::{ByteInput, ByteOutput};
 use feats_files::{Fault, bytes_of, write_answer};
-use crate::PlanFiles;
 use feats_words::CommandArguments;
 use std::alloc::Global;
 

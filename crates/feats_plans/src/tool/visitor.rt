@@ -14,10 +14,10 @@ ghost use Rattle.policies.specs.Views.{rule_text};
 
 use crate::tool::answered::Answered;
 use crate::tool::lost_dependencies::lost_lines;
+use crate::{PlanVisitor, Planned};
 use feats_answers::{Answer, Asked, answer_to};
 use feats_check::checking::{PolicyWords, policy_warnings};
 use feats_files::Fault;
-use crate::{PlanVisitor, Planned};
 use feats_words::Question;
 use policies::Rule;
 use std::alloc::Global;
