@@ -1,4 +1,3 @@
 -- Definitions that only contracts of private functions use.
 pub mod Rows
 pub mod Sets
-pub mod Tokens

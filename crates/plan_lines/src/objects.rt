@@ -4,7 +4,7 @@ ghost use Rattle.json.specs.Token.{string};
 ghost use Rattle.plan_lines.specs.Objects as spec;
 ghost use Rattle.cargo_workspaces.specs.Views.{texts};
 ghost use Rattle.plan_lines.specs.Views.{shown_text};
-ghost use Rattle.plan_lines.specs.inner.Tokens.{Appends};
+ghost use Rattle.plan_lines.specs.parts.Members.{Appends};
 
 use crate::shown::Shown;
 use json::Writer;
