@@ -7,7 +7,6 @@ pub mod DuplicateTexts
 pub mod EdgeTexts
 pub mod FeatureTexts
 pub mod Gathered
-pub mod LabelsOn
 pub mod ListTexts
 pub mod NameMessages
 pub mod Parts

@@ -11,10 +11,10 @@ use Rattle.cargo_plans.specs.plan_steps.Plans.{PlanText}
 use Rattle.feats_words.specs.declared.command_arguments.Format.{Format}
 use Rattle.feats_words.specs.declared.command_arguments.Format.TheVariants as format
 
--- The text about a package, if `on side label` is whether a label of it is built.
-abbrev pub feature_text : Format → (Side → LabelName → Bool) → PackageText → Text
-feature_text format.Text on p = feature_lines on p
-feature_text format.Json on p = feature_objects on p
+-- The text about package `p`. `built side p label` is whether a part of it is built on a side.
+abbrev pub feature_text : Format → (Side → ℕ → LabelName → Bool) → ℕ → PackageText → Text
+feature_text format.Text built p x = feature_lines built p x
+feature_text format.Json built p x = feature_objects built p x
 
 -- The text about the package that a word names: its features are on where they are built.
 pub record IsListText (form : Format) (w : WorkspaceText) (split : Bool) (plan : PlanText) (word text : Text) : Type 0 where
@@ -22,4 +22,4 @@ pub record IsListText (form : Format) (w : WorkspaceText) (split : Bool) (plan :
   pub described : PackageText
   pub is_named : package_named w.packages word ≡ Ok number
   pub is_package : slice_get w.packages number ≡ Some described
-  pub is_text : text ≡ feature_text form (λ side. is_part_built split plan side number) described
+  pub is_text : text ≡ feature_text form (is_part_built split plan) number described

@@ -9,7 +9,6 @@ mod duplicate_texts;
 mod edge_texts;
 mod feature_texts;
 mod gathered;
-mod labels_on;
 mod list_texts;
 mod name_messages;
 mod off_parts;

@@ -10,7 +10,6 @@ ghost use Rattle.feats_files.specs.Messages.{Says};
 ghost use Rattle.feats_answers.specs.ListTexts as spec;
 ghost use Rattle.feats_answers.specs.NameMessages.{IsNameRefusal};
 
-use crate::labels_on::BuiltLabels;
 use crate::name_messages::name_refused;
 use cargo_plans::Plan;
 use cargo_plans::built_parts::BuiltParts;
@@ -29,12 +28,11 @@ fn features_by(
     ix: usize,
     package: &Package<'_>,
 ) -> Result<Vec<u8>, AllocError>
-    ensures { IfOk result (λ text. text.items ≡ spec.feature_text format (λ side. is_built_in parts.now side ix) (package_text «package».now)) }
+    ensures { IfOk result (λ text. text.items ≡ spec.feature_text format (is_built_in parts.now) ix (package_text «package».now)) }
 {
-    let on = BuiltLabels { parts };
     match format {
-        Format::Text => Ok(feature_lines(alloc, ix, package, &on)?.into_bytes()),
-        Format::Json => feature_objects(alloc, ix, package, &on),
+        Format::Text => Ok(feature_lines(alloc, parts, ix, package)?.into_bytes()),
+        Format::Json => feature_objects(alloc, parts, ix, package),
     }
 }
 
@@ -47,7 +45,7 @@ fn package_features(
     ix: usize,
     package: &Package<'_>,
 ) -> Result<Vec<u8>, AllocError>
-    ensures { IfOk result (λ text. text.items ≡ spec.feature_text format (λ side. is_part_built split (plan_text plan.now) side ix) (package_text «package».now)) }
+    ensures { IfOk result (λ text. text.items ≡ spec.feature_text format (is_part_built split (plan_text plan.now)) ix (package_text «package».now)) }
 {
     let parts = BuiltParts::of_plan(alloc, split, plan)?;
     features_by(alloc, format, &parts, ix, package)

@@ -1,4 +1,2 @@
 pub mod CountLemmas
-pub mod FeaturesTokens
 pub mod Once
-pub mod PlatformsTokens

@@ -1,5 +1,5 @@
 -- The JSON objects of features.
-use Rattle.std.specs.Prelude.{List, ◌∷◌, ◌++◌, Bool, Option, Some, None, flat_map, codes}
+use Rattle.std.specs.Prelude.{ℕ, List, ◌∷◌, ◌++◌, Bool, Option, Some, None, flat_map, codes}
 use Rattle.json.specs.Token.{Token, begin_object}
 use Rattle.feature_labels.specs.Names.{LabelName}
 use Rattle.feature_labels.specs.Names.LabelName.{base, named, optional}
@@ -37,6 +37,6 @@ line_of p l = object_line (begin_object ∷ (package_members p ++ listed_members
 abbrev pub lines : PackageText → List ListedText → Text
 lines p list = flat_map (line_of p) list
 
--- The lines of a package.
-abbrev pub feature_objects : (Side → LabelName → Bool) → PackageText → Text
-feature_objects on p = lines p (listed on p)
+-- The lines of package `p`.
+abbrev pub feature_objects : (Side → ℕ → LabelName → Bool) → ℕ → PackageText → Text
+feature_objects built p x = lines x (listed built p x)

@@ -1,13 +1,14 @@
 //! The features of a package as text in columns.
 ghost use Rattle.std.specs.Prelude.{◌≡◌, ◌++◌, IfOk, OnOk, map, flat_map, string_bytes};
+ghost use Rattle.cargo_plans.specs.built_parts.BuiltViews.{is_built_in};
 ghost use Rattle.cargo_workspaces.specs.Views.{package_text, texts};
 ghost use Rattle.feature_labels.specs.Names.{label_of, label_text};
 ghost use Rattle.feats_list.specs.features.Lines as spec;
 ghost use Rattle.feats_list.specs.features.inner.Listed.{listed_text};
 ghost use Rattle.plan_lines.specs.parts.Views.{row_text};
 
-use crate::features::labels_on::LabelsOn;
 use crate::features::listed::{Listed, has_two_sides, listed_package};
+use cargo_plans::built_parts::BuiltParts;
 use cargo_workspaces::Package;
 use feature_labels::FeatureLabel;
 use plan_lines::parts::{Row, table_of};
@@ -28,7 +29,7 @@ fn label_text(alloc: Global, label: FeatureLabel<'_>) -> Result<String, AllocErr
     }
 }
 
-/// Returns the word for the sides on which a label is on. `two` is whether its package is on, on both sides.
+/// Returns the word for the sides on which a label is built. `two` is whether its package is built on both sides.
 fn on_word(two: bool, target: bool, host: bool) -> &'static str
     ensures { result.now ≡ spec.on_word two target host }
 {
@@ -66,7 +67,7 @@ fn spaced(alloc: Global, items: &[&str]) -> Result<String, AllocError>
     }
 }
 
-/// Returns the row of `listed`. `two` is whether its package is on, on both sides.
+/// Returns the row of `listed`. `two` is whether its package is built on both sides.
 fn row_of(alloc: Global, two: bool, listed: &Listed<'_, '_>) -> Result<Row, AllocError>
     ensures { IfOk result (λ row. row_text row ≡ spec.row_of two (listed_text listed.now)) }
 {
@@ -80,7 +81,7 @@ fn row_of(alloc: Global, two: bool, listed: &Listed<'_, '_>) -> Result<Row, Allo
     })
 }
 
-/// Returns the table of `list`. `two` is whether the package is on, on both sides.
+/// Returns the table of `list`. `two` is whether the package is built on both sides.
 fn table(alloc: Global, two: bool, list: &[Listed<'_, '_>]) -> Result<String, AllocError>
     ensures { IfOk result (λ text. string_bytes text ≡ spec.table two (map listed_text list.now)) }
 {
@@ -92,15 +93,15 @@ fn table(alloc: Global, two: bool, list: &[Listed<'_, '_>]) -> Result<String, Al
 }
 
 /// Returns a line for each feature of `package`, which is package `ix`, and then for each optional dependency: its name, whether it is
-/// on, and the items of the feature. If the package is on, on both sides, a line also says on which side.
-pub fn feature_lines<T: LabelsOn>(
+/// built, and the items of the feature. If the package is built on both sides, a line also says on which side.
+pub fn feature_lines(
     alloc: Global,
+    parts: &BuiltParts<'_>,
     ix: usize,
     package: &Package<'_>,
-    on: &T,
 ) -> Result<String, AllocError>
-    ensures { IfOk result (λ text. string_bytes text ≡ spec.feature_lines (λ side. T.on on.now side ix) (package_text «package».now)) }
+    ensures { IfOk result (λ text. string_bytes text ≡ spec.feature_lines (is_built_in parts.now) ix (package_text «package».now)) }
 {
-    let list = listed_package(alloc, ix, package, on)?;
-    table(alloc, has_two_sides(ix, on), &list)
+    let list = listed_package(alloc, parts, ix, package)?;
+    table(alloc, has_two_sides(parts, ix), &list)
 }

@@ -1,13 +1,14 @@
 //! The features of a package as JSON objects.
 ghost use Rattle.std.specs.Prelude.{◌≡◌, ◌++◌, IfOk, OnOk, map, option_map};
+ghost use Rattle.cargo_plans.specs.built_parts.BuiltViews.{is_built_in};
 ghost use Rattle.cargo_workspaces.specs.Views.{package_text};
 ghost use Rattle.feature_labels.specs.Names.{label_of};
 ghost use Rattle.feats_list.specs.features.Objects as spec;
 ghost use Rattle.feats_list.specs.features.inner.Listed.{listed_text};
 ghost use Rattle.plan_lines.specs.parts.Members.{Appends};
 
-use crate::features::labels_on::LabelsOn;
 use crate::features::listed::{Listed, listed_package};
+use cargo_plans::built_parts::BuiltParts;
 use cargo_workspaces::Package;
 use feature_labels::FeatureLabel;
 use json::Writer;
@@ -45,7 +46,7 @@ fn write_package(writer: &mut Writer, package: &Package<'_>) -> Result<(), Alloc
     write_member(writer, "version", package.version)
 }
 
-/// Writes the name of `listed`, on which sides it is on, and its items.
+/// Writes the name of `listed`, on which sides it is built, and its items.
 fn write_listed(writer: &mut Writer, listed: &Listed<'_, '_>) -> Result<(), AllocError>
     ensures { OnOk result (Appends writer.old writer.new (spec.listed_members (listed_text listed.now))) }
 {
@@ -86,15 +87,15 @@ fn lines(
 }
 
 /// Returns a line for each feature of `package`, which is package `ix`, and then for each optional dependency: a JSON object with the
-/// package's id, name and version, the name of the feature or of the dependency, on which sides it is on, and the items of the feature.
-pub fn feature_objects<T: LabelsOn>(
+/// package's id, name and version, the name of the feature or of the dependency, on which sides it is built, and the items of the feature.
+pub fn feature_objects(
     alloc: Global,
+    parts: &BuiltParts<'_>,
     ix: usize,
     package: &Package<'_>,
-    on: &T,
 ) -> Result<Vec<u8>, AllocError>
-    ensures { IfOk result (λ text. text.items ≡ spec.feature_objects (λ side. T.on on.now side ix) (package_text «package».now)) }
+    ensures { IfOk result (λ text. text.items ≡ spec.feature_objects (is_built_in parts.now) ix (package_text «package».now)) }
 {
-    let list = listed_package(alloc, ix, package, on)?;
+    let list = listed_package(alloc, parts, ix, package)?;
     lines(alloc, package, &list)
 }

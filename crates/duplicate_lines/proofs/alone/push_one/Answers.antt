@@ -9,7 +9,7 @@ use Rattle.plan_duplicates.specs.DisagreementViews.{disagreement_text}
 use Rattle.duplicate_lines.specs.Shown.{alone_lines, place_name}
 use Rattle.duplicate_lines.specs.Views.{shown_text}
 use Rattle.duplicate_lines.proofs.Lists.{nothing}
-use Rattle.duplicate_lines.proofs.Tokens.{on_ok}
+use Rattle.plan_lines.proofs.Tokens.{on_ok}
 use Rattle.duplicate_lines.proofs.alone.push_one.Goals as goal
 
 pub returns-in-Some : goal.returns-in-Some

@@ -6,7 +6,7 @@ use Rattle.cargo_workspaces.specs.Workspaces.{PackageText, Text}
 use Rattle.duplicate_lines.specs.Shown.{alone}
 use Rattle.duplicate_lines.specs.Views.{shown_text}
 use Rattle.duplicate_lines.proofs.Lists.{nothing}
-use Rattle.duplicate_lines.proofs.Tokens.{on_ok}
+use Rattle.plan_lines.proofs.Tokens.{on_ok}
 use Rattle.duplicate_lines.proofs.alone.push_row.Goals as goal
 
 pub returns-in-Some : goal.returns-in-Some

@@ -6,7 +6,7 @@ use Rattle.plan_duplicates.specs.Views.{placed_text}
 use Rattle.duplicate_lines.specs.Shown.{placed_as}
 use Rattle.duplicate_lines.specs.Views.{shown_text}
 use Rattle.duplicate_lines.proofs.Lists.{nothing}
-use Rattle.duplicate_lines.proofs.Tokens.{on_ok}
+use Rattle.plan_lines.proofs.Tokens.{on_ok}
 use Rattle.duplicate_lines.proofs.listed.push_package.Goals as goal
 
 pub returns-in-Some : goal.returns-in-Some

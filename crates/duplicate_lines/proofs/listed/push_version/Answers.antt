@@ -4,7 +4,7 @@ use Rattle.cargo_workspaces.specs.Workspaces.{PackageText}
 use Rattle.duplicate_lines.specs.Shown.{version}
 use Rattle.duplicate_lines.specs.Views.{shown_text}
 use Rattle.duplicate_lines.proofs.Lists.{nothing}
-use Rattle.duplicate_lines.proofs.Tokens.{on_ok}
+use Rattle.plan_lines.proofs.Tokens.{on_ok}
 use Rattle.duplicate_lines.proofs.listed.push_version.Goals as goal
 
 pub returns-in-Some : goal.returns-in-Some

@@ -1,4 +1,4 @@
-use Rattle.duplicate_lines.proofs.Tokens.{appended, on_ok}
+use Rattle.plan_lines.proofs.Tokens.{appended, on_ok}
 use Rattle.duplicate_lines.proofs.objects.write_head.Goals as goal
 
 pub returns : goal.returns

@@ -6,7 +6,7 @@ use Rattle.plan_lines.specs.parts.Members.{Appends}
 use Rattle.duplicate_lines.specs.Objects.{head}
 use Rattle.duplicate_lines.specs.Shown.{kind_of, package_of}
 use Rattle.duplicate_lines.specs.Views.{shown_text}
-use Rattle.duplicate_lines.proofs.Tokens.{appended, on_ok}
+use Rattle.plan_lines.proofs.Tokens.{appended, on_ok}
 use Rattle.duplicate_lines.proofs.objects.write_members.Goals as goal
 
 pub returns : goal.returns

@@ -9,5 +9,5 @@ use Rattle.feats_answers.proofs.list_texts.package_features.Goals as goal
 pub returns : goal.returns
 returns c =
     IfOk-weaker c.features_by.result _ _ (λ text is.
-    is ∙ ap (λ (built : Side → ℕ → LabelName → Bool). feature_text c.args.format (λ side. built side c.args.ix) (package_text c.args.«package».now)) c.in_ok-parts.ensures.built)
+    is ∙ ap (λ (built : Side → ℕ → LabelName → Bool). feature_text c.args.format built c.args.ix (package_text c.args.«package».now)) c.in_ok-parts.ensures.built)
     c.features_by.ensures

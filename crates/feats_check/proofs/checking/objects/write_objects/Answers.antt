@@ -1,8 +1,18 @@
-use Rattle.std.proofs.Common.{map}
+use Rattle.std.proofs.Common.{◌≡◌, ◌∙◌, ap, List, ◌++◌, map}
 use Rattle.cargo_workspaces.specs.WorkspaceView.{workspace_text}
+use Rattle.cargo_workspaces.specs.Workspaces.{PackageText}
+use Rattle.json.specs.Written.{Written}
+use Rattle.plan_lines.proofs.Tokens.{on_ok}
+use Rattle.plan_lines.specs.parts.Members.{Appends}
 use Rattle.plan_whys.specs.StepViews.{why_text}
-use Rattle.feats_check.proofs.CheckingTokens.{objects_of, on_ok}
+use Rattle.plan_whys.specs.Steps.{WhyText}
+use Rattle.why_lines.specs.Objects as why
+use Rattle.why_lines.specs.Settings.{SettingsText}
 use Rattle.feats_check.proofs.checking.objects.write_objects.Goals as goal
+
+-- the objects of these steps
+objects_of : (a b : Written) (packages : List PackageText) (s t : SettingsText) (ws : List WhyText) → s ≡ t → why.Appends a b (why.step_objects packages s ws) → Appends a b (why.step_objects packages t ws)
+objects_of a b packages s t ws e h = record { before = h.before; tokens = h.tokens ∙ ap (λ z. a.tokens ++ why.step_objects packages z ws) e }
 
 pub returns : goal.returns
 returns c = on_ok c.write_steps.result c.write_steps.ensures (λ written.

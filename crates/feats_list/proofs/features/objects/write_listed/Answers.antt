@@ -2,7 +2,7 @@ use Rattle.std.proofs.Common.{Option, subst}
 use Rattle.std.specs.Prelude.{codes}
 use Rattle.cargo_workspaces.specs.Workspaces.{Text}
 use Rattle.plan_lines.specs.parts.Members.{Appends, optional_member}
-use Rattle.feats_list.proofs.FeaturesTokens.{appended, on_ok}
+use Rattle.plan_lines.proofs.Tokens.{appended, on_ok}
 use Rattle.feats_list.proofs.features.objects.write_listed.Goals as goal
 
 pub returns : goal.returns
