@@ -15,8 +15,8 @@ use Rattle.plan_whys.specs.Steps.{WhyText}
 use Rattle.plan_whys.specs.Whys.{Answers, AnswersEachBy}
 use Rattle.plan_whys.specs.declared.steps.Spot.{Spot}
 use Rattle.plan_whys.specs.declared.steps.WhyStep.{WhyStep}
-use Rattle.why_lines.specs.Lines.{why_lines}
-use Rattle.why_lines.specs.Settings.{SettingsText}
+use Rattle.feats_why.specs.Lines.{why_lines}
+use Rattle.feats_why.specs.Settings.{SettingsText}
 use Rattle.feats_answers.specs.WhyTexts.{why_settings}
 use mathlib.Core.List.{map-map}
 

@@ -13,7 +13,7 @@ use Rattle.feats_words.specs.declared.command_arguments.Format.{Format}
 use Rattle.plan_names.specs.Names.{NamedText}
 use Rattle.plan_rows.specs.declared.side.Side.{Side}
 use Rattle.plan_whys.specs.Steps.{SpotText}
-use Rattle.why_lines.specs.Unbuilt.{UnbuiltText}
+use Rattle.feats_why.specs.Unbuilt.{UnbuiltText}
 use Rattle.feats_answers.specs.AnswerTexts.{AnswerText}
 use Rattle.feats_answers.specs.AnswerViews.{texts_of}
 use Rattle.feats_answers.specs.BuiltSpots.{spots_in, unbuilt_text_of, with_script}

@@ -5,8 +5,8 @@ use Rattle.feats_files.specs.Files.{FileText}
 use Rattle.feats_files.specs.FileViews.{file_text}
 use Rattle.feats_words.specs.Arguments.{ArgumentsText}
 use Rattle.feats_words.specs.Views.{arguments_text}
-use Rattle.policies.specs.Rules.{RuleText}
-use Rattle.policies.specs.Views.{rule_text}
+use Rattle.feats_policies.specs.Rules.{RuleText}
+use Rattle.feats_policies.specs.Views.{rule_text}
 use Rattle.feats_answers.specs.declared.asked.Asked.{Asked}
 
 -- The arguments of the command, the rules of the policy, the files of the target platforms, and the bytes of the members' manifests.

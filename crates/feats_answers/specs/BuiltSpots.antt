@@ -8,7 +8,7 @@ use Rattle.cargo_workspaces.specs.Workspaces.{Text, PackageText}
 use Rattle.cargo_plans.specs.Plans.{WordsText}
 use Rattle.plan_rows.specs.declared.side.Side.{Side}
 use Rattle.plan_whys.specs.Steps.{SpotText}
-use Rattle.why_lines.specs.Unbuilt.{UnbuiltText, unbuilt_lines}
+use Rattle.feats_why.specs.Unbuilt.{UnbuiltText, unbuilt_lines}
 use Rattle.feats_words.specs.declared.command_arguments.Format.{Format}
 use Rattle.feats_words.specs.declared.command_arguments.Format.TheVariants as format
 

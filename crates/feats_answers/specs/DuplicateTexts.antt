@@ -2,15 +2,15 @@
 use Rattle.std.specs.Prelude.{◌≡◌, List, [], Bool, true, false}
 use Rattle.cargo_workspaces.specs.Workspaces.{Text, PackageText, WorkspaceText}
 use Rattle.cargo_plans.specs.Plans.{WordsText}
-use Rattle.duplicate_lines.specs.Lines.{duplicate_lines}
-use Rattle.duplicate_lines.specs.Objects.{duplicate_objects}
-use Rattle.duplicate_lines.specs.Shown.{ShownText, all_shown}
+use Rattle.feats_duplicate_lines.specs.Lines.{duplicate_lines}
+use Rattle.feats_duplicate_lines.specs.Objects.{duplicate_objects}
+use Rattle.feats_duplicate_lines.specs.Shown.{ShownText, all_shown}
 use Rattle.feats_files.specs.Files.{FileText}
 use Rattle.feats_words.specs.declared.command_arguments.Format.{Format}
 use Rattle.feats_words.specs.declared.command_arguments.Format.TheVariants as format
-use Rattle.duplicate_lines.specs.plan_duplicates.Duplicates.{AreDuplicates, DuplicatesText}
-use Rattle.duplicate_lines.specs.plan_duplicates.MemberPlans.{ArePlansAlone, MemberPlanText}
-use Rattle.duplicate_lines.specs.plan_duplicates.Disagreements.{AreDisagreements, DisagreementText}
+use Rattle.feats_duplicate_lines.specs.feats_duplicates.Duplicates.{AreDuplicates, DuplicatesText}
+use Rattle.feats_duplicate_lines.specs.feats_duplicates.MemberPlans.{ArePlansAlone, MemberPlanText}
+use Rattle.feats_duplicate_lines.specs.feats_duplicates.Disagreements.{AreDisagreements, DisagreementText}
 use Rattle.cargo_plans.specs.plan_steps.Plans.{PlanText}
 use Rattle.cargo_plans.specs.plan_units.Units.{UnitText}
 use Rattle.feats_answers.specs.PlanTexts.{target_names}

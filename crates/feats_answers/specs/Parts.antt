@@ -9,7 +9,7 @@ use Rattle.plan_names.specs.Names.{NamedText, PartText, whole, feature, dependen
 use Rattle.plan_rows.specs.declared.side.Side.{Side}
 use Rattle.plan_rows.specs.declared.side.Side.TheVariants.{Target}
 use Rattle.plan_whys.specs.Steps.{SpotText}
-use Rattle.why_lines.specs.Labels.{spot_label}
+use Rattle.feats_why.specs.Labels.{spot_label}
 use Rattle.feats_answers.specs.NameMessages.{IsNameRefusal}
 
 abbrev pub label_of_part : PartText → LabelName

@@ -1,8 +1,8 @@
 -- The text that shows a plan.
 use Rattle.std.specs.Prelude.{List, [], ◌∷◌, Option, map, option_map, filter_map, slice_get, unwrap_or, codes}
 use Rattle.cargo_workspaces.specs.Workspaces.{Text, PackageText}
-use Rattle.plan_lines.specs.Lines.{ShownText, plan_lines}
-use Rattle.plan_lines.specs.Objects.{plan_objects}
+use Rattle.feats_lines.specs.Lines.{ShownText, plan_lines}
+use Rattle.feats_lines.specs.Objects.{plan_objects}
 use Rattle.cargo_plans.specs.plan_units.Units.{UnitText}
 use Rattle.cargo_plans.specs.declared.plan_units.unit.Place.{Place}
 use Rattle.cargo_plans.specs.declared.plan_units.unit.Place.TheVariants as place

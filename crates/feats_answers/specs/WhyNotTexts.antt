@@ -11,9 +11,9 @@ use Rattle.plan_rows.specs.platforms.HeldSpecs.{is_declared}
 use Rattle.plan_rows.specs.declared.side.Side.{Side}
 use Rattle.plan_rows.specs.declared.side.Side.TheVariants.{Target, Host}
 use Rattle.cargo_plans.specs.plan_steps.Plans.{PlanText}
-use Rattle.why_nots.specs.Parts.{PartText}
-use Rattle.why_nots.specs.Texts.{IsWhyNotText}
-use Rattle.why_nots.specs.Typed.{is_single}
+use Rattle.feats_why_not.specs.Parts.{PartText}
+use Rattle.feats_why_not.specs.Texts.{IsWhyNotText}
+use Rattle.feats_why_not.specs.Typed.{is_single}
 use Rattle.feats_words.specs.declared.command_arguments.Format.{Format}
 use Rattle.feats_answers.specs.AnswerTexts.{AnswerText}
 use Rattle.feats_answers.specs.Gathered.{gathered}

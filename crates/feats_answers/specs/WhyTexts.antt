@@ -10,11 +10,11 @@ use Rattle.cargo_plans.specs.plan_steps.Plans.{PlanText}
 use Rattle.plan_whys.specs.Reasons.{AreReasoned}
 use Rattle.plan_whys.specs.Steps.{ReasonedText, SpotText, WhyText}
 use Rattle.plan_whys.specs.Whys.{AnswersBy}
-use Rattle.why_lines.specs.Lines.{why_lines}
-use Rattle.why_lines.specs.Objects.{why_objects}
-use Rattle.why_lines.specs.ReasonedLines.{reasoned_lines}
-use Rattle.why_lines.specs.ReasonedObjects.{reasoned_objects}
-use Rattle.why_lines.specs.Settings.{SettingsText}
+use Rattle.feats_why.specs.Lines.{why_lines}
+use Rattle.feats_why.specs.Objects.{why_objects}
+use Rattle.feats_why.specs.ReasonedLines.{reasoned_lines}
+use Rattle.feats_why.specs.ReasonedObjects.{reasoned_objects}
+use Rattle.feats_why.specs.Settings.{SettingsText}
 use Rattle.feats_words.specs.declared.command_arguments.Format.{Format}
 use Rattle.feats_words.specs.declared.command_arguments.Format.TheVariants as format
 use Rattle.feats_answers.specs.AnswerTexts.{AnswerText}

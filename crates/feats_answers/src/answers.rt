@@ -42,7 +42,7 @@ use feats_files::{Fault, PlatformFile};
 use feats_words::{Format, Question};
 use plan_rows::platforms::{DeclaredSpec, HeldSpecs, every_spec};
 use std::alloc::{AllocError, Global};
-use why_nots::why_not_texts;
+use feats_why_not::why_not_texts;
 
 /// Returns the answer to `plan`.
 fn plan_answer(

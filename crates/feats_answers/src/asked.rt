@@ -2,7 +2,7 @@
 
 use feats_files::PlatformFile;
 use feats_words::CommandArguments;
-use policies::Rule;
+use feats_policies::Rule;
 
 /// A question about a build: the arguments, the rules of a policy, the files of platforms and the manifests of members.
 #[derive(Clone, Copy)]

@@ -5,7 +5,7 @@ ghost use Rattle.cargo_workspaces.specs.WorkspaceView.{workspace_text};
 ghost use Rattle.cargo_plans.specs.WordsView.{words_text};
 ghost use Rattle.plan_rows.specs.platforms.HeldSpecs.{holds_on};
 ghost use Rattle.plan_whys.specs.StepViews.{spot_text};
-ghost use Rattle.why_lines.specs.Unbuilt.{unbuilt_text};
+ghost use Rattle.feats_why.specs.Unbuilt.{unbuilt_text};
 ghost use Rattle.feats_answers.specs.BuiltSpots as spec;
 
 use cargo_plans::PlanWords;
@@ -15,7 +15,7 @@ use feats_words::Format;
 use plan_rows::platforms::HeldSpecs;
 use plan_whys::Spot;
 use std::alloc::{AllocError, Global};
-use why_lines::{UnbuiltSpot, unbuilt_lines};
+use feats_why::{UnbuiltSpot, unbuilt_lines};
 
 /// Returns those of `spots` whose state is `wanted`.
 pub(crate) fn those_in<'w>(

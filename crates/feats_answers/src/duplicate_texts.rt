@@ -3,13 +3,13 @@ ghost use Rattle.std.specs.Prelude.{◌≡◌, IfOk, map};
 ghost use Rattle.cargo_workspaces.specs.Views.{package_text};
 ghost use Rattle.cargo_workspaces.specs.WorkspaceView.{workspace_text};
 ghost use Rattle.cargo_plans.specs.WordsView.{words_text};
-ghost use Rattle.duplicate_lines.specs.Shown.{all_shown as all_of};
-ghost use Rattle.duplicate_lines.specs.Views.{shown_text};
+ghost use Rattle.feats_duplicate_lines.specs.Shown.{all_shown as all_of};
+ghost use Rattle.feats_duplicate_lines.specs.Views.{shown_text};
 ghost use Rattle.feats_files.specs.FileViews.{file_text};
-ghost use Rattle.duplicate_lines.specs.plan_duplicates.DuplicatesView.{duplicates_text as found_text};
-ghost use Rattle.duplicate_lines.specs.plan_duplicates.MemberPlans.{ArePlansAlone};
-ghost use Rattle.duplicate_lines.specs.plan_duplicates.Views.{member_plan_text};
-ghost use Rattle.duplicate_lines.specs.plan_duplicates.DisagreementViews.{disagreement_text};
+ghost use Rattle.feats_duplicate_lines.specs.feats_duplicates.DuplicatesView.{duplicates_text as found_text};
+ghost use Rattle.feats_duplicate_lines.specs.feats_duplicates.MemberPlans.{ArePlansAlone};
+ghost use Rattle.feats_duplicate_lines.specs.feats_duplicates.Views.{member_plan_text};
+ghost use Rattle.feats_duplicate_lines.specs.feats_duplicates.DisagreementViews.{disagreement_text};
 ghost use Rattle.plan_rows.specs.platforms.HeldSpecs.{holds_on};
 ghost use Rattle.cargo_plans.specs.plan_steps.PlanViews.{plan_text};
 ghost use Rattle.cargo_plans.specs.plan_units.UnitViews.{unit_text};
@@ -19,7 +19,7 @@ ghost use Rattle.feats_answers.specs.PlanTexts as names;
 use crate::plan_texts::target_names;
 use cargo_plans::{Plan, PlanWords, Unit};
 use cargo_workspaces::{Package, Workspace};
-use duplicate_lines::{
+use feats_duplicate_lines::{
     Disagreement, Duplicates, MemberPlan, Shown, all_shown, disagreements_of, duplicate_lines,
     duplicate_objects, duplicates_of, plans_alone,
 };

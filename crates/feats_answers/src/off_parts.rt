@@ -3,7 +3,7 @@ ghost use Rattle.std.specs.Prelude.{◌≡◌, IfOk, map};
 ghost use Rattle.cargo_plans.specs.built_parts.BuiltViews.{is_built_in};
 ghost use Rattle.plan_names.specs.Views.{named_text};
 ghost use Rattle.cargo_plans.specs.plan_steps.PlanViews.{plan_text};
-ghost use Rattle.why_nots.specs.PartView.{part_text};
+ghost use Rattle.feats_why_not.specs.PartView.{part_text};
 ghost use Rattle.feats_answers.specs.WhyNotTexts as spec;
 
 use crate::parts::label_of;
@@ -11,7 +11,7 @@ use cargo_plans::built_parts::BuiltParts;
 use cargo_plans::{Plan, Side};
 use plan_names::Named;
 use std::alloc::{AllocError, Global};
-use why_nots::OffPart;
+use feats_why_not::OffPart;
 
 /// Returns whether `named` is built on no side, in the plan whose built parts are `built`.
 fn is_part_off(built: &BuiltParts<'_>, named: Named<'_>) -> bool

@@ -21,7 +21,7 @@ use plan_rows::platforms::HeldSpecs;
 use plan_whys::Spot;
 use plan_words::choose;
 use std::alloc::{AllocError, Global};
-use why_lines::spot_label;
+use feats_why::spot_label;
 
 /// Returns the label of `part`.
 pub(crate) fn label_of(part: Part<'_>) -> FeatureLabel<'_>

@@ -2,7 +2,7 @@
 ghost use Rattle.std.specs.Prelude.{◌≡◌, ◌++◌, ◌∷◌, [], IfOk, OnOk, map, option_map, filter_map};
 ghost use Rattle.cargo_workspaces.specs.Views.{texts};
 ghost use Rattle.cargo_workspaces.specs.WorkspaceView.{workspace_text};
-ghost use Rattle.plan_lines.specs.Views.{shown_text};
+ghost use Rattle.feats_lines.specs.Views.{shown_text};
 ghost use Rattle.cargo_plans.specs.plan_units.UnitViews.{unit_text};
 ghost use Rattle.feats_files.specs.FileViews.{file_text};
 ghost use Rattle.feats_answers.specs.PlanTexts as spec;
@@ -11,7 +11,7 @@ use cargo_plans::{Place, Unit};
 use cargo_workspaces::Workspace;
 use feats_files::PlatformFile;
 use feats_words::Format;
-use plan_lines::{Shown, lines_of, objects_of};
+use feats_lines::{Shown, lines_of, objects_of};
 use std::alloc::{AllocError, Global};
 
 /// Returns the triples of `files`.

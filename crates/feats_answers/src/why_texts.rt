@@ -10,7 +10,7 @@ ghost use Rattle.plan_names.specs.Views.{named_text};
 ghost use Rattle.plan_rows.specs.platforms.HeldSpecs.{holds_on};
 ghost use Rattle.cargo_plans.specs.plan_steps.PlanViews.{plan_text};
 ghost use Rattle.plan_whys.specs.StepViews.{found_text, reasoned_text as reasoned_view, spot_text, why_text};
-ghost use Rattle.why_lines.specs.Settings.{settings_text};
+ghost use Rattle.feats_why.specs.Settings.{settings_text};
 ghost use Rattle.feats_answers.specs.AnswerViews.{answer_text, texts_of};
 ghost use Rattle.feats_answers.specs.BuiltSpots.{spots_in};
 ghost use Rattle.feats_answers.specs.Gathered.{AreShown};
@@ -28,7 +28,7 @@ use plan_names::Named;
 use plan_rows::platforms::HeldSpecs;
 use plan_whys::{ReasonedStep, Spot, WhyStep, reasoned_steps, why_each};
 use std::alloc::{AllocError, Global};
-use why_lines::{WhySettings, reasoned_lines, reasoned_objects, why_lines, why_objects};
+use feats_why::{WhySettings, reasoned_lines, reasoned_objects, why_lines, why_objects};
 
 /// Returns the settings of the steps' lines.
 fn why_settings<'n, 's>(words: &PlanWords<'_, 'n, HeldSpecs<'s>>) -> WhySettings<'n, HeldSpecs<'s>>

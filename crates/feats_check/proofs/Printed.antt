@@ -4,7 +4,7 @@ use Rattle.std.specs.Prelude.{flat_map}
 use Rattle.std.proofs.lemmas.Grind.{flat_map-append}
 use Rattle.std.proofs.lemmas.List.{map-append, take_more}
 use Rattle.cargo_workspaces.specs.Workspaces.{Text}
-use Rattle.policies.specs.Rules.{RuleText}
+use Rattle.feats_policies.specs.Rules.{RuleText}
 use Rattle.feats_check.specs.checking.Broken.{ArePrinted, BrokenText, IsBrokenText, IsRuleText, are_any, broken_by, broken_rules, unchecked_by, unchecked_rules}
 use Rattle.feats_check.specs.checking.Questions.{PrintedText, QuestionText}
 use Rattle.feats_check.specs.checking.Scenes.{ScenesText, judged}

@@ -8,8 +8,8 @@ use Rattle.cargo_workspaces.specs.Workspaces.{Text}
 use Rattle.feats_files.specs.Messages.{Says}
 use Rattle.feats_files.specs.declared.fault.Fault.{Fault}
 use Rattle.feats_files.specs.declared.fault.Fault.TheVariants as fault
-use Rattle.policies.specs.Rules.{RuleText}
-use Rattle.policies.specs.checks.Checks.{IsFirstRefusal, RefusalText, no_platform_in, out_of_memory, refusal_of, refusals, several_in}
+use Rattle.feats_policies.specs.Rules.{RuleText}
+use Rattle.feats_policies.specs.checks.Checks.{IsFirstRefusal, RefusalText, no_platform_in, out_of_memory, refusal_of, refusals, several_in}
 use Rattle.feats_check.specs.texts.Messages.{IsCheckMessage}
 use Rattle.feats_check.specs.checking.Broken.{IsFirstMessage, IsRuleRefusal, unchecked_by, unchecked_in, unchecked_rules}
 use Rattle.feats_check.specs.checking.Questions.{QuestionText}

@@ -19,8 +19,8 @@ use Rattle.feats_check.specs.declared.checking.planned.WidePlans.{WidePlans}
 use Rattle.feats_check.specs.declared.checking.planned.WideWords.{WideWords}
 use Rattle.feats_check.specs.declared.checking.question.PolicyText.{PolicyText}
 use Rattle.feats_check.specs.checking.inner.WidePlans.{AreWidePlans, IsNoWidePlan, scenes_with}
-use Rattle.policies.specs.declared.checks.judged.Judged.{Judged}
-use Rattle.policies.specs.declared.checks.judged.Judged.TheVariants.{ForEveryChoice, WithAll}
+use Rattle.feats_policies.specs.declared.checks.judged.Judged.{Judged}
+use Rattle.feats_policies.specs.declared.checks.judged.Judged.TheVariants.{ForEveryChoice, WithAll}
 use Rattle.feats_check.proofs.Refusals.{says_more}
 
 -- what follows from an error

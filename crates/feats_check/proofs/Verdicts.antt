@@ -1,8 +1,8 @@
 -- The verdict on one rule.
 use Rattle.std.proofs.Common.{◌≡◌, ◌∙◌, Bool, List, [], ◌∷◌, sym, subst, ap, refl, map, append-nil}
 use Rattle.cargo_workspaces.specs.Workspaces.{Text}
-use Rattle.policies.specs.Rules.{RuleText}
-use Rattle.policies.specs.checks.Checks.{AreVerdicts, VerdictText, refusal_of, verdict_on}
+use Rattle.feats_policies.specs.Rules.{RuleText}
+use Rattle.feats_policies.specs.checks.Checks.{AreVerdicts, VerdictText, refusal_of, verdict_on}
 use Rattle.feats_check.specs.checking.Broken.{ArePrinted, IsRuleText, are_any, broken_in, unchecked_in}
 use Rattle.feats_check.specs.checking.Questions.{QuestionText}
 use Rattle.feats_check.specs.checking.Scenes.{SceneText, judged_in}

@@ -3,7 +3,7 @@ use Rattle.std.proofs.Common.{◌∙◌, ap, List, ◌++◌, append_assoc, Resul
 use Rattle.std.specs.Prelude.{IfOk, OnOk}
 use Rattle.json.specs.Token.{Token}
 use Rattle.json.specs.Written.{Written}
-use Rattle.plan_lines.specs.parts.Members.{Appends}
+use Rattle.feats_lines.specs.parts.Members.{Appends}
 
 pub appended : (a b c : Written) (xs ys : List Token) → Appends a b xs → Appends b c ys → Appends a c (xs ++ ys)
 appended a b c xs ys h k = record { before = k.before ∙ h.before; tokens = k.tokens ∙ ap (λ z. z ++ ys) h.tokens ∙ append_assoc a.tokens xs ys }

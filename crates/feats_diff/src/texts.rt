@@ -9,5 +9,5 @@ mod titles;
 
 pub use lines::difference_lines;
 pub use objects::difference_objects;
-pub use plan_lines::Shown;
+pub use feats_lines::Shown;
 pub use shown::{Difference, Turned};

@@ -13,11 +13,11 @@ use Rattle.cargo_plans.specs.declared.plan_units.unit.Place.TheVariants.{Host, T
 use Rattle.cargo_plans.specs.plan_steps.Plans.{PlanText}
 use Rattle.cargo_plans.specs.Plans.{IsPlanOf, WordsText}
 use Rattle.laws.specs.plans.Widening.{IsCovered, IsOnIn, IsWidest, WidestTurnsAllOn}
-use Rattle.policies.specs.plan_whys.Steps.{SpotText}
-use Rattle.policies.specs.checks.Builds.{BuildText, built_for, has_side, is_built_for, is_built_on, is_every, is_platform, triple_of}
-use Rattle.policies.specs.checks.Found.{denied, denied_at, denied_for, denied_on, kept, no_platform, of_meaning}
-use Rattle.policies.specs.checks.Meanings.{MeaningText, meaning_among, meaning_in, one_of, these}
-use Rattle.policies.specs.checks.Spots.{counts, is_spot_on, is_spot_on_for, on_both_sides, spots_on, spots_on_for}
+use Rattle.feats_policies.specs.plan_whys.Steps.{SpotText}
+use Rattle.feats_policies.specs.checks.Builds.{BuildText, built_for, has_side, is_built_for, is_built_on, is_every, is_platform, triple_of}
+use Rattle.feats_policies.specs.checks.Found.{denied, denied_at, denied_for, denied_on, kept, no_platform, of_meaning}
+use Rattle.feats_policies.specs.checks.Meanings.{MeaningText, meaning_among, meaning_in, one_of, these}
+use Rattle.feats_policies.specs.checks.Spots.{counts, is_spot_on, is_spot_on_for, on_both_sides, spots_on, spots_on_for}
 use Rattle.laws.specs.plans.EveryChoice.{AreBuilds, HasNoMoreBuilt, HasNoMoreOn, NoChoiceBreaksDeny, NoChoiceBreaksDenyForPlatform}
 
 -- a test that passes less keeps nothing where the other keeps nothing

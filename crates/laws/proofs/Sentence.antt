@@ -10,11 +10,11 @@ use Rattle.plan_names.specs.wider.widenings.Findings.{IsOffEverywhere}
 use Rattle.plan_names.specs.wider.widenings.Widenings.{widened, widenings}
 use Rattle.plan_names.specs.declared.wider.widenings.widening.Widening.{Widening}
 use Rattle.plan_names.specs.declared.wider.widenings.widening.Widening.TheVariants as widening
-use Rattle.why_nots.specs.Answers.{AnswerText, IsAnswer, explained, message_in, not_planned, off, unbuilt}
-use Rattle.why_nots.specs.Lines.{said_of}
-use Rattle.why_nots.specs.Parts.{PartText, title_of}
-use Rattle.why_nots.specs.Texts.{IsWhyNotText, head_text}
-use Rattle.why_nots.specs.Tries.{TypedText}
+use Rattle.feats_why_not.specs.Answers.{AnswerText, IsAnswer, explained, message_in, not_planned, off, unbuilt}
+use Rattle.feats_why_not.specs.Lines.{said_of}
+use Rattle.feats_why_not.specs.Parts.{PartText, title_of}
+use Rattle.feats_why_not.specs.Texts.{IsWhyNotText, head_text}
+use Rattle.feats_why_not.specs.Tries.{TypedText}
 use Rattle.plan_names.specs.wider.texts.Laws.{EndsWithLine, SentenceSaysOff}
 use Rattle.plan_names.specs.wider.texts.Lines.{SaidText, sentence, why_not_lines, widening_lines}
 use Rattle.plan_names.specs.wider.texts.Lines as said

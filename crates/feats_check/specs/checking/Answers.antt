@@ -9,7 +9,7 @@ use Rattle.cargo_plans.specs.plan_steps.Plans.{PlanText}
 use Rattle.feats_check.specs.checking.Broken.{IsPolicyText, IsRulesRefusal}
 use Rattle.feats_check.specs.checking.Questions.{PrintedText, QuestionText}
 use Rattle.feats_check.specs.checking.Scenes.{AreWideScenes, SceneText, ScenesText, all_words, scene_of, widest_words}
-use Rattle.policies.specs.declared.checks.judged.Judged.TheVariants.{InBuild}
+use Rattle.feats_policies.specs.declared.checks.judged.Judged.TheVariants.{InBuild}
 
 -- The rules are judged in this scene of the build; for every choice, denies are judged in those of wider words.
 pub record AreScenesOf (here : SceneText) (asked : QuestionText) (every : Option (Text → Bool)) (scenes : ScenesText) : Type 0 where

@@ -4,9 +4,9 @@ use Rattle.std.specs.List.{AllZip}
 use Rattle.cargo_workspaces.specs.Workspaces.{Text}
 use Rattle.plan_whys.specs.Steps.{SpotText, WhyText}
 use Rattle.plan_whys.specs.Whys.{AnswersBy}
-use Rattle.policies.specs.Rules.{RuleText}
-use Rattle.policies.specs.checks.Builds.{BuildText}
-use Rattle.policies.specs.checks.Checks.{RefusalText, VerdictText, refusal_of, verdict_on}
+use Rattle.feats_policies.specs.Rules.{RuleText}
+use Rattle.feats_policies.specs.checks.Builds.{BuildText}
+use Rattle.feats_policies.specs.checks.Checks.{RefusalText, VerdictText, refusal_of, verdict_on}
 use Rattle.feats_check.specs.texts.Messages.{IsCheckMessage}
 use Rattle.feats_check.specs.checking.Questions.{PrintedText, QuestionText}
 use Rattle.feats_check.specs.checking.Scenes.{JudgedText, SceneText, ScenesText, judged}

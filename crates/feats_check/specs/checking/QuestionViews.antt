@@ -2,7 +2,7 @@
 use Rattle.std.specs.Prelude.{map, option_map}
 use Rattle.cargo_workspaces.specs.Views.{texts}
 use Rattle.plan_rows.specs.platforms.HeldSpecs.{holds_on}
-use Rattle.policies.specs.Views.{rule_text}
+use Rattle.feats_policies.specs.Views.{rule_text}
 use Rattle.feats_check.specs.checking.Questions.{PrintedText, QuestionText}
 use Rattle.feats_check.specs.declared.checking.question.PolicyQuestion.{PolicyQuestion}
 use Rattle.feats_check.specs.declared.checking.question.PolicyText.{PolicyText}

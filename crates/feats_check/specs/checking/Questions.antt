@@ -2,7 +2,7 @@
 use Rattle.std.specs.Prelude.{List, Bool, Option}
 use Rattle.cargo_workspaces.specs.Workspaces.{Text}
 use Rattle.feats_words.specs.declared.command_arguments.Format.{Format}
-use Rattle.policies.specs.Rules.{RuleText}
+use Rattle.feats_policies.specs.Rules.{RuleText}
 
 -- The form of the answer, the path of the policy and its rules, and the triples of the host and of the target platforms. For every choice,
 -- `every` is which platform specs hold on every platform.

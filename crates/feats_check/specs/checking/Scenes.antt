@@ -5,10 +5,10 @@ use Rattle.cargo_workspaces.specs.Workspaces.{Text, WorkspaceText}
 use Rattle.cargo_plans.specs.plan_steps.Plans.{PlanText}
 use Rattle.plan_names.specs.wider.widenings.Widenings.{widened}
 use Rattle.plan_names.specs.declared.wider.widenings.widening.Widening.TheVariants as widening
-use Rattle.policies.specs.Rules.{KindText, RuleText, deny, deny_duplicates, require}
-use Rattle.policies.specs.checks.Builds.{BuildText}
-use Rattle.policies.specs.declared.checks.judged.Judged.{Judged}
-use Rattle.policies.specs.declared.checks.judged.Judged.TheVariants.{ForEveryChoice, WithAll}
+use Rattle.feats_policies.specs.Rules.{KindText, RuleText, deny, deny_duplicates, require}
+use Rattle.feats_policies.specs.checks.Builds.{BuildText}
+use Rattle.feats_policies.specs.declared.checks.judged.Judged.{Judged}
+use Rattle.feats_policies.specs.declared.checks.judged.Judged.TheVariants.{ForEveryChoice, WithAll}
 use Rattle.feats_check.specs.checking.Questions.{QuestionText}
 
 -- A build of a workspace, and the words of its plan.

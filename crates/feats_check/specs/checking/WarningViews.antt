@@ -2,7 +2,7 @@
 use Rattle.std.specs.Prelude.{List, String, map, string_bytes}
 use Rattle.std.specs.Global.{Global}
 use Rattle.cargo_workspaces.specs.Workspaces.{Text}
-use Rattle.policies.specs.Views.{rule_text}
+use Rattle.feats_policies.specs.Views.{rule_text}
 use Rattle.feats_check.specs.checking.Warnings.{PolicyWordsText}
 use Rattle.feats_check.specs.declared.checking.warnings.PolicyWords.{PolicyWords}
 

@@ -3,8 +3,8 @@ use Rattle.std.specs.Prelude.{◌≡◌, ℕ, List, [], ◌∷◌, ◌++◌, Boo
 use Rattle.std.specs.List.{list_any}
 use Rattle.cargo_plans.specs.Plans.{AfterWords, WordsText}
 use Rattle.cargo_workspaces.specs.Workspaces.{PackageText, Text, WorkspaceText}
-use Rattle.policies.specs.Rules.{KindText, RuleText, deny, deny_duplicates, require}
-use Rattle.policies.specs.checks.Checks.{unmatched}
+use Rattle.feats_policies.specs.Rules.{KindText, RuleText, deny, deny_duplicates, require}
+use Rattle.feats_policies.specs.checks.Checks.{unmatched}
 use Rattle.feats_check.specs.texts.Messages.{build_message, unmatched_message}
 
 -- The policy that is checked: its file, whether for every choice, and whether each word must name something; and its rules.

@@ -5,16 +5,16 @@ use Rattle.cargo_plans.specs.Plans.{WordsText}
 use Rattle.cargo_workspaces.specs.Workspaces.{PackageText, Text}
 use Rattle.feats_words.specs.declared.command_arguments.Format.{Format}
 use Rattle.feats_words.specs.declared.command_arguments.Format.TheVariants as format
-use Rattle.plan_lines.specs.parts.Members.{object_line}
+use Rattle.feats_lines.specs.parts.Members.{object_line}
 use Rattle.plan_whys.specs.Steps.{WhyText}
-use Rattle.policies.specs.Rules.{RuleText}
+use Rattle.feats_policies.specs.Rules.{RuleText}
 use Rattle.feats_check.specs.texts.Lines.{verdict_lines}
 use Rattle.feats_check.specs.texts.Objects.{rule_members}
-use Rattle.policies.specs.declared.checks.judged.Judged.{Judged}
+use Rattle.feats_policies.specs.declared.checks.judged.Judged.{Judged}
 use Rattle.feats_check.specs.checking.Questions.{QuestionText}
-use Rattle.why_lines.specs.Lines.{why_lines}
-use Rattle.why_lines.specs.Objects.{step_objects}
-use Rattle.why_lines.specs.Settings.{SettingsText}
+use Rattle.feats_why.specs.Lines.{why_lines}
+use Rattle.feats_why.specs.Objects.{step_objects}
+use Rattle.feats_why.specs.Settings.{SettingsText}
 
 -- The settings of the lines that explain a plan of the words. The side is shown, if the resolver tells sides apart.
 abbrev pub settings_of : WordsText → SettingsText

@@ -1,11 +1,11 @@
 -- The lines about a broken rule.
 use Rattle.std.specs.Prelude.{ℕ, [], ◌∷◌, ◌++◌, Bool, true, not, Option, Some, None, codes, ◌==◌, ◌&&◌, if◌then◌else◌}
 use Rattle.std.specs.Fmt.{decimal}
-use Rattle.policies.specs.Lines.{Text}
-use Rattle.policies.specs.Rules.{KindText, RuleText, deny, deny_duplicates, require}
+use Rattle.feats_policies.specs.Lines.{Text}
+use Rattle.feats_policies.specs.Rules.{KindText, RuleText, deny, deny_duplicates, require}
 use Rattle.shown_texts.specs.Shown.{escaped}
-use Rattle.policies.specs.declared.checks.judged.Judged.{Judged}
-use Rattle.policies.specs.declared.checks.judged.Judged.TheVariants.{ForEveryChoice, InBuild, WithAll}
+use Rattle.feats_policies.specs.declared.checks.judged.Judged.{Judged}
+use Rattle.feats_policies.specs.declared.checks.judged.Judged.TheVariants.{ForEveryChoice, InBuild, WithAll}
 
 -- The end of a rule for one platform.
 abbrev pub platform_end : Option Text → Text

@@ -4,13 +4,13 @@ use Rattle.std.specs.Str.{bytes_eq}
 use Rattle.cargo_workspaces.specs.Workspaces.{PackageText, Text}
 use Rattle.feats_files.specs.Platforms.{id_at}
 use Rattle.plan_names.specs.Names.{NamedText, PartText, dependency, feature, whole}
-use Rattle.policies.specs.Problems.{problem_text}
-use Rattle.policies.specs.Rules.{KindText, RuleText, deny, deny_duplicates, require}
-use Rattle.policies.specs.declared.fault.PolicyFault.{PolicyFault}
-use Rattle.policies.specs.declared.fault.PolicyFault.TheVariants as fault
-use Rattle.policies.specs.declared.problem.Problem.{Problem}
-use Rattle.policies.specs.checks.Builds.{BuildText}
-use Rattle.policies.specs.checks.Checks.{RefusalText, no_platform_in, out_of_memory, several_in}
+use Rattle.feats_policies.specs.Problems.{problem_text}
+use Rattle.feats_policies.specs.Rules.{KindText, RuleText, deny, deny_duplicates, require}
+use Rattle.feats_policies.specs.declared.fault.PolicyFault.{PolicyFault}
+use Rattle.feats_policies.specs.declared.fault.PolicyFault.TheVariants as fault
+use Rattle.feats_policies.specs.declared.problem.Problem.{Problem}
+use Rattle.feats_policies.specs.checks.Builds.{BuildText}
+use Rattle.feats_policies.specs.checks.Checks.{RefusalText, no_platform_in, out_of_memory, several_in}
 use Rattle.feats_check.specs.texts.Lines.{place}
 use Rattle.shown_texts.specs.Shown.{escaped}
 

@@ -1,11 +1,11 @@
 -- The JSON objects of broken rules.
 use Rattle.std.specs.Prelude.{List, ◌∷◌, ◌++◌, Option, None, codes}
 use Rattle.json.specs.Token.{Token, begin_object}
-use Rattle.plan_lines.specs.parts.Members.{number_member, object_line, optional_member, text_member}
-use Rattle.policies.specs.Lines.{Text}
-use Rattle.policies.specs.Rules.{KindText, RuleText, deny, deny_duplicates, require}
-use Rattle.policies.specs.declared.checks.judged.Judged.{Judged}
-use Rattle.policies.specs.declared.checks.judged.Judged.TheVariants.{ForEveryChoice, InBuild, WithAll}
+use Rattle.feats_lines.specs.parts.Members.{number_member, object_line, optional_member, text_member}
+use Rattle.feats_policies.specs.Lines.{Text}
+use Rattle.feats_policies.specs.Rules.{KindText, RuleText, deny, deny_duplicates, require}
+use Rattle.feats_policies.specs.declared.checks.judged.Judged.{Judged}
+use Rattle.feats_policies.specs.declared.checks.judged.Judged.TheVariants.{ForEveryChoice, InBuild, WithAll}
 
 -- The members of what a rule demands: its first word, the word that it is about, and its platform or null.
 abbrev pub kind_members : Text → Text → Option Text → List Token

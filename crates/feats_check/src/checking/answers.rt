@@ -12,7 +12,7 @@ ghost use Rattle.feats_check.specs.checking.QuestionViews.{printed_text, questio
 ghost use Rattle.feats_check.specs.checking.Scenes.{IsScene, scene_of};
 ghost use Rattle.feats_check.specs.checking.inner.PlannedViews.{scene_by};
 ghost use Rattle.feats_check.specs.checking.inner.WidePlans.{AreWidePlans, scenes_with};
-ghost use Rattle.policies.specs.declared.checks.judged.Judged.TheVariants.{InBuild};
+ghost use Rattle.feats_policies.specs.declared.checks.judged.Judged.TheVariants.{InBuild};
 
 use crate::checking::planned::{Planned, Wide, WidePlans, WideWords, wide_plans, wide_words};
 use crate::checking::question::{PolicyQuestion, PolicyText};
@@ -22,7 +22,7 @@ use cargo_workspaces::Workspace;
 use feats_files::Fault;
 use plan_rows::platforms::HeldSpecs;
 use plan_words::choose;
-use policies::checks::Judged;
+use feats_policies::checks::Judged;
 use std::alloc::Global;
 
 /// Returns the answer for every choice, by the plans of the wider `words`.

@@ -4,14 +4,14 @@ ghost use Rattle.cargo_plans.specs.WordsView.{words_text};
 ghost use Rattle.cargo_workspaces.specs.WorkspaceView.{workspace_text};
 ghost use Rattle.plan_rows.specs.platforms.HeldSpecs.{holds_on};
 ghost use Rattle.plan_whys.specs.StepViews.{found_text};
-ghost use Rattle.policies.specs.Views.{rule_text};
+ghost use Rattle.feats_policies.specs.Views.{rule_text};
 ghost use Rattle.feats_check.specs.checking.Broken.{ArePrinted, IsBrokenText, broken_in};
 ghost use Rattle.feats_check.specs.checking.QuestionViews.{question_text};
 ghost use Rattle.feats_check.specs.checking.Scenes.{IsScene};
 ghost use Rattle.feats_check.specs.checking.Whys as spec;
 ghost use Rattle.feats_check.specs.checking.inner.Grown.{Grows};
 ghost use Rattle.feats_check.specs.checking.inner.PlannedViews.{scene_by};
-ghost use Rattle.policies.specs.checks.Views.{verdict_text};
+ghost use Rattle.feats_policies.specs.checks.Views.{verdict_text};
 
 use crate::checking::lines::rule_lines;
 use crate::checking::objects::rule_object;
@@ -20,8 +20,8 @@ use crate::checking::question::PolicyQuestion;
 use cargo_workspaces::Workspace;
 use feats_words::Format;
 use plan_whys::{WhyStep, why_each};
-use policies::Rule;
-use policies::checks::Verdict;
+use feats_policies::Rule;
+use feats_policies::checks::Verdict;
 use std::alloc::{AllocError, Global};
 
 /// Returns the text of the rule `rule`, which the plan of `planned` breaks, with `founds`, which explain what breaks it.

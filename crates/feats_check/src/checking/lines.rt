@@ -4,7 +4,7 @@ ghost use Rattle.cargo_plans.specs.WordsView.{words_text};
 ghost use Rattle.cargo_workspaces.specs.WorkspaceView.{workspace_text};
 ghost use Rattle.plan_rows.specs.platforms.HeldSpecs.{holds_on};
 ghost use Rattle.plan_whys.specs.StepViews.{found_text, why_text};
-ghost use Rattle.policies.specs.Views.{rule_text};
+ghost use Rattle.feats_policies.specs.Views.{rule_text};
 ghost use Rattle.feats_check.specs.checking.Whys as spec;
 ghost use Rattle.feats_check.specs.texts.Lines.{verdict_lines};
 
@@ -15,9 +15,9 @@ use cargo_plans::PlanWords;
 use cargo_workspaces::Workspace;
 use plan_rows::platforms::HeldSpecs;
 use plan_whys::WhyStep;
-use policies::Rule;
+use feats_policies::Rule;
 use std::alloc::{AllocError, Global};
-use why_lines::why_lines;
+use feats_why::why_lines;
 
 /// Appends the lines of `steps`, by which a spot is on.
 fn push_steps(

@@ -3,10 +3,10 @@ ghost use Rattle.std.specs.Prelude.{◌≡◌, ◌++◌, ◌∷◌, IfOk, OnOk, 
 ghost use Rattle.cargo_plans.specs.WordsView.{words_text};
 ghost use Rattle.cargo_workspaces.specs.WorkspaceView.{workspace_text};
 ghost use Rattle.json.specs.Token.{begin_object};
-ghost use Rattle.plan_lines.specs.parts.Members.{Appends, object_line};
+ghost use Rattle.feats_lines.specs.parts.Members.{Appends, object_line};
 ghost use Rattle.plan_rows.specs.platforms.HeldSpecs.{holds_on};
 ghost use Rattle.plan_whys.specs.StepViews.{found_text, why_text};
-ghost use Rattle.policies.specs.Views.{rule_text};
+ghost use Rattle.feats_policies.specs.Views.{rule_text};
 ghost use Rattle.feats_check.specs.checking.Whys as spec;
 ghost use Rattle.feats_check.specs.texts.Objects.{rule_members};
 
@@ -16,12 +16,12 @@ use crate::texts::write_rule;
 use cargo_plans::PlanWords;
 use cargo_workspaces::Workspace;
 use json::Writer;
-use plan_lines::parts::{begin_line, end_line};
+use feats_lines::parts::{begin_line, end_line};
 use plan_rows::platforms::HeldSpecs;
 use plan_whys::WhyStep;
-use policies::Rule;
+use feats_policies::Rule;
 use std::alloc::{AllocError, Global};
-use why_lines::write_steps;
+use feats_why::write_steps;
 
 /// Writes the objects of `steps`.
 fn write_objects(

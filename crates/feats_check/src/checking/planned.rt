@@ -16,7 +16,7 @@ use feats_files::Fault;
 use feats_files::plan_messages::plan_refused;
 use plan_names::wider::widenings::{Widening, widened};
 use plan_rows::platforms::HeldSpecs;
-use policies::checks::Judged;
+use feats_policies::checks::Judged;
 use std::alloc::Global;
 
 /// A plan, its words, and the build that it is of.

@@ -2,7 +2,7 @@
 
 use feats_words::Format;
 use plan_rows::platforms::HeldSpecs;
-use policies::Rule;
+use feats_policies::Rule;
 
 /// A question about a policy, and the format of its answer.
 #[derive(Clone, Copy)]

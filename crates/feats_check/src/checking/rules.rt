@@ -2,7 +2,7 @@
 ghost use Rattle.std.specs.Prelude.{◌≡◌, ◌++◌, ◌||◌, IfOk, IfErr, OnOk};
 ghost use Rattle.cargo_workspaces.specs.WorkspaceView.{workspace_text};
 ghost use Rattle.feats_files.specs.Messages.{Says};
-ghost use Rattle.policies.specs.Views.{rule_text};
+ghost use Rattle.feats_policies.specs.Views.{rule_text};
 ghost use Rattle.feats_check.specs.checking.Broken as spec;
 ghost use Rattle.feats_check.specs.checking.QuestionViews.{printed_text, question_text};
 ghost use Rattle.feats_check.specs.checking.Scenes.{IsScene, judged, judged_in, judged_widely};
@@ -15,8 +15,8 @@ use crate::checking::question::{PolicyQuestion, PolicyText};
 use crate::texts::check_refused;
 use cargo_workspaces::Workspace;
 use feats_files::Fault;
-use policies::checks::{Build, check};
-use policies::{Rule, RuleKind};
+use feats_policies::checks::{Build, check};
+use feats_policies::{Rule, RuleKind};
 use std::alloc::{AllocError, Global};
 use std::slice;
 

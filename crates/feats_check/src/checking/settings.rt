@@ -3,11 +3,11 @@ ghost use Rattle.std.specs.Prelude.{◌≡◌};
 ghost use Rattle.cargo_plans.specs.WordsView.{words_text};
 ghost use Rattle.plan_rows.specs.platforms.HeldSpecs.{holds_on};
 ghost use Rattle.feats_check.specs.checking.Whys as spec;
-ghost use Rattle.why_lines.specs.Settings.{settings_text};
+ghost use Rattle.feats_why.specs.Settings.{settings_text};
 
 use cargo_plans::PlanWords;
 use plan_rows::platforms::HeldSpecs;
-use why_lines::WhySettings;
+use feats_why::WhySettings;
 
 /// Returns the settings of the lines that explain a plan for `words`.
 pub(crate) fn settings_of<'n, 's>(

@@ -5,7 +5,7 @@ ghost use Rattle.cargo_plans.specs.WordsView.{words_text};
 ghost use Rattle.cargo_workspaces.specs.WorkspaceView.{workspace_text};
 ghost use Rattle.feats_files.specs.Messages.{Says};
 ghost use Rattle.plan_rows.specs.platforms.HeldSpecs.{holds_on};
-ghost use Rattle.policies.specs.Views.{kind_text, rule_text};
+ghost use Rattle.feats_policies.specs.Views.{kind_text, rule_text};
 ghost use Rattle.feats_check.specs.checking.Warnings as spec;
 ghost use Rattle.feats_check.specs.checking.WarningViews.{policy_words, string_texts};
 ghost use Rattle.feats_check.specs.checking.inner.Firsts.{IsFirst, IsNone};
@@ -17,8 +17,8 @@ use cargo_workspaces::Workspace;
 use feats_files::Fault;
 use plan_rows::platforms::HeldSpecs;
 use plan_words::choose;
-use policies::checks::unmatched;
-use policies::{Rule, RuleKind};
+use feats_policies::checks::unmatched;
+use feats_policies::{Rule, RuleKind};
 use std::alloc::{AllocError, Global};
 
 /// The policy that is checked.

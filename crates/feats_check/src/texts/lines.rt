@@ -1,11 +1,11 @@
 //! The lines about broken rules.
 ghost use Rattle.std.specs.Prelude.{◌≡◌, ◌++◌, ◌∷◌, [], OnOk, ◌&&◌, not, codes, if◌then◌else◌};
-ghost use Rattle.policies.specs.Views.{rule_text};
+ghost use Rattle.feats_policies.specs.Views.{rule_text};
 ghost use Rattle.feats_check.specs.texts.Lines as spec;
 
 use crate::texts::words::{breach, push, push_kind, push_place, push_reason};
-use policies::Rule;
-use policies::checks::Judged;
+use feats_policies::Rule;
+use feats_policies::checks::Judged;
 use std::alloc::{AllocError, Global};
 
 /// Appends `byte`, after four spaces if a line starts with it and it doesn't end that line.

@@ -5,7 +5,7 @@ ghost use Rattle.cargo_workspaces.specs.Workspaces.{Text};
 ghost use Rattle.cargo_workspaces.specs.WorkspaceView.{workspace_text};
 ghost use Rattle.feats_files.specs.Messages.{Says};
 ghost use Rattle.plan_names.specs.Views.{named_text, part_text};
-ghost use Rattle.policies.specs.checks.Views.{build_text, refusal_text};
+ghost use Rattle.feats_policies.specs.checks.Views.{build_text, refusal_text};
 ghost use Rattle.feats_check.specs.texts.Lines.{place};
 ghost use Rattle.feats_check.specs.texts.Messages as spec;
 
@@ -13,8 +13,8 @@ use crate::texts::words::digits_of;
 use cargo_workspaces::Workspace;
 use feats_files::{Fault, id_at, push_escaped};
 use plan_names::{Named, Part};
-use policies::checks::{Build, CheckFault};
-use policies::{PolicyFault, Problem};
+use feats_policies::checks::{Build, CheckFault};
+use feats_policies::{PolicyFault, Problem};
 use shown_texts::escaped;
 use std::alloc::{AllocError, Global};
 

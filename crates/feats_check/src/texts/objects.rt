@@ -1,13 +1,13 @@
 //! Broken rules as JSON objects.
 ghost use Rattle.std.specs.Prelude.{◌≡◌, ◌++◌, IfOk, OnOk, option_map};
-ghost use Rattle.plan_lines.specs.parts.Members.{Appends};
-ghost use Rattle.policies.specs.Views.{kind_text, rule_text};
+ghost use Rattle.feats_lines.specs.parts.Members.{Appends};
+ghost use Rattle.feats_policies.specs.Views.{kind_text, rule_text};
 ghost use Rattle.feats_check.specs.texts.Objects as spec;
 
 use json::Writer;
-use plan_lines::parts::{begin_line, end_line, write_member, write_number, write_optional};
-use policies::checks::Judged;
-use policies::{Rule, RuleKind};
+use feats_lines::parts::{begin_line, end_line, write_member, write_number, write_optional};
+use feats_policies::checks::Judged;
+use feats_policies::{Rule, RuleKind};
 use std::alloc::AllocError;
 
 /// Writes the members of a rule that begins with `verb`, about `word` and for the platform `on`.

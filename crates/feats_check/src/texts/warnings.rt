@@ -1,12 +1,12 @@
 //! Warnings about policies.
 ghost use Rattle.std.specs.Prelude.{◌≡◌, IfOk, string_bytes};
 ghost use Rattle.feats_files.specs.Messages.{Says};
-ghost use Rattle.policies.specs.Views.{kind_text, rule_text};
+ghost use Rattle.feats_policies.specs.Views.{kind_text, rule_text};
 ghost use Rattle.feats_check.specs.texts.Messages as spec;
 
 use crate::texts::messages::{about, refused_by};
 use feats_files::Fault;
-use policies::{Rule, RuleKind};
+use feats_policies::{Rule, RuleKind};
 use shown_texts::escaped;
 use std::alloc::{AllocError, Global};
 

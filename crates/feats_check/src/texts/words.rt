@@ -1,12 +1,12 @@
 //! The words of rules.
 ghost use Rattle.std.specs.Prelude.{◌≡◌, ◌++◌, IfOk, OnOk, option_map, string_bytes};
 ghost use Rattle.std.specs.Fmt.{decimal};
-ghost use Rattle.policies.specs.Rules.{deny};
-ghost use Rattle.policies.specs.Views.{kind_text};
+ghost use Rattle.feats_policies.specs.Rules.{deny};
+ghost use Rattle.feats_policies.specs.Views.{kind_text};
 ghost use Rattle.feats_check.specs.texts.Lines as spec;
 
-use policies::RuleKind;
-use policies::checks::Judged;
+use feats_policies::RuleKind;
+use feats_policies::checks::Judged;
 use shown_texts::escaped;
 use std::alloc::{AllocError, Global};
 

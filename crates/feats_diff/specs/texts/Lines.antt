@@ -1,8 +1,8 @@
 -- The lines of what differs between two plans.
 use Rattle.std.specs.Prelude.{List, [], ◌∷◌, ◌++◌, map, flat_map, codes}
 use Rattle.cargo_workspaces.specs.Workspaces.{Text, PackageText}
-use Rattle.plan_lines.specs.parts.Tables.{RowText, table_of}
-use Rattle.plan_lines.specs.Lines.{ShownText, label_of, name_of, spaced}
+use Rattle.feats_lines.specs.parts.Tables.{RowText, table_of}
+use Rattle.feats_lines.specs.Lines.{ShownText, label_of, name_of, spaced}
 use Rattle.feats_diff.specs.texts.Shown.{DifferenceText, TurnedText, come, gone, changed}
 use Rattle.feats_diff.specs.texts.Titles.{NamesText, changed_title}
 

@@ -2,8 +2,8 @@
 use Rattle.std.specs.Prelude.{List, ◌∷◌, ◌++◌, map, flat_map, codes, if◌then◌else◌}
 use Rattle.json.specs.Token.{Token, begin_object}
 use Rattle.cargo_workspaces.specs.Workspaces.{Text, PackageText}
-use Rattle.plan_lines.specs.parts.Members.{object_line, text_member, texts_member}
-use Rattle.plan_lines.specs.Lines.{ShownText}
+use Rattle.feats_lines.specs.parts.Members.{object_line, text_member, texts_member}
+use Rattle.feats_lines.specs.Lines.{ShownText}
 use Rattle.feats_diff.specs.texts.Shown.{DifferenceText, TurnedText, come, gone, changed}
 use Rattle.feats_diff.specs.texts.Titles.{is_same}
 

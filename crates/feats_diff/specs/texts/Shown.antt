@@ -1,7 +1,7 @@
 -- The differences of two plans, as the lines show them.
 use Rattle.std.specs.Prelude.{List}
 use Rattle.cargo_workspaces.specs.Workspaces.{Text}
-use Rattle.plan_lines.specs.Lines.{ShownText}
+use Rattle.feats_lines.specs.Lines.{ShownText}
 
 -- A feature that comes, and the last step of why it is on.
 pub record TurnedText : Type 0 where

@@ -2,7 +2,7 @@
 use Rattle.std.specs.Prelude.{List, [], ◌++◌, ◌∷◌, Bool, ◌&&◌, codes, unwrap_or, if◌then◌else◌}
 use Rattle.std.specs.Str.{bytes_eq}
 use Rattle.cargo_workspaces.specs.Workspaces.{Text, PackageText}
-use Rattle.plan_lines.specs.Lines.{label_of, source_text}
+use Rattle.feats_lines.specs.Lines.{label_of, source_text}
 
 -- The names and versions of the packages of both workspaces.
 pub record NamesText : Type 0 where

@@ -1,7 +1,7 @@
 -- The values that Rust's types contain.
 use Rattle.std.specs.Prelude.{map, string_bytes}
 use Rattle.cargo_workspaces.specs.Views.{texts}
-use Rattle.plan_lines.specs.Views.{shown_text}
+use Rattle.feats_lines.specs.Views.{shown_text}
 use Rattle.feats_diff.specs.texts.Shown.{DifferenceText, TurnedText, come, gone, changed}
 use Rattle.feats_diff.specs.declared.texts.shown.Difference.{Difference}
 use Rattle.feats_diff.specs.declared.texts.shown.Difference.TheVariants.{Comes, Goes, Changes}

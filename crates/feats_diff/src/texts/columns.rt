@@ -1,7 +1,7 @@
 //! The texts of the columns.
 ghost use Rattle.std.specs.Prelude.{◌≡◌, ◌++◌, IfOk, OnOk, codes, flat_map, map, string_bytes};
 ghost use Rattle.cargo_workspaces.specs.Views.{texts};
-ghost use Rattle.plan_lines.specs.Lines.{spaced};
+ghost use Rattle.feats_lines.specs.Lines.{spaced};
 ghost use Rattle.feats_diff.specs.texts.Lines as spec;
 ghost use Rattle.feats_diff.specs.texts.Views.{turned_text};
 ghost use Rattle.feats_diff.specs.texts.inner.Words.{word_text};

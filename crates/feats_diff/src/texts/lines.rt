@@ -4,15 +4,15 @@ ghost use Rattle.cargo_workspaces.specs.Views.{package_text};
 ghost use Rattle.feats_diff.specs.texts.Lines as spec;
 ghost use Rattle.feats_diff.specs.texts.Views.{difference_text};
 ghost use Rattle.feats_diff.specs.texts.inner.Names.{AreRepeated, names_text};
-ghost use Rattle.plan_lines.specs.parts.Tables.{table_of as table_text};
-ghost use Rattle.plan_lines.specs.parts.Views.{row_text};
+ghost use Rattle.feats_lines.specs.parts.Tables.{table_of as table_text};
+ghost use Rattle.feats_lines.specs.parts.Views.{row_text};
 
 use crate::texts::rows::push_rows;
 use crate::texts::shown::Difference;
 use crate::texts::titles::Repeated;
 use cargo_workspaces::Package;
-use plan_lines::parts::{Row, table_of};
-use plan_lines::{names_of, repeated_in};
+use feats_lines::parts::{Row, table_of};
+use feats_lines::{names_of, repeated_in};
 use std::alloc::{AllocError, Global};
 
 /// Returns the rows of `shown`.

@@ -3,15 +3,15 @@ ghost use Rattle.std.specs.Prelude.{◌≡◌, ◌++◌, IfOk, OnOk, flat_map, m
 ghost use Rattle.cargo_workspaces.specs.Views.{package_text, texts};
 ghost use Rattle.feats_diff.specs.texts.Objects as spec;
 ghost use Rattle.feats_diff.specs.texts.Views.{difference_text, turned_text};
-ghost use Rattle.plan_lines.specs.parts.Members.{Appends};
-ghost use Rattle.plan_lines.specs.Views.{shown_text};
+ghost use Rattle.feats_lines.specs.parts.Members.{Appends};
+ghost use Rattle.feats_lines.specs.Views.{shown_text};
 
 use crate::texts::shown::{Difference, Turned};
 use crate::texts::titles::is_same;
 use cargo_workspaces::Package;
 use json::Writer;
-use plan_lines::Shown;
-use plan_lines::parts::{begin_line, end_line, write_member, write_texts};
+use feats_lines::Shown;
+use feats_lines::parts::{begin_line, end_line, write_member, write_texts};
 use std::alloc::{AllocError, Global};
 
 /// Writes the kind of the difference, and the place and the package of `shown`.

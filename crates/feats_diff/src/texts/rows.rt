@@ -4,14 +4,14 @@ ghost use Rattle.feats_diff.specs.texts.Lines as spec;
 ghost use Rattle.cargo_workspaces.specs.Views.{texts};
 ghost use Rattle.feats_diff.specs.texts.Views.{difference_text, turned_text};
 ghost use Rattle.feats_diff.specs.texts.inner.Names.{AreRepeated, names_text};
-ghost use Rattle.plan_lines.specs.parts.Views.{row_text};
-ghost use Rattle.plan_lines.specs.Views.{shown_text};
+ghost use Rattle.feats_lines.specs.parts.Views.{row_text};
+ghost use Rattle.feats_lines.specs.Views.{shown_text};
 
 use crate::texts::columns::{features_cell, marks_cell, place_cell};
 use crate::texts::shown::{Difference, Turned};
 use crate::texts::titles::{Repeated, changed_title};
-use plan_lines::parts::Row;
-use plan_lines::{Shown, label_of};
+use feats_lines::parts::Row;
+use feats_lines::{Shown, label_of};
 use std::alloc::{AllocError, Global};
 
 /// Appends the row of `why`, unless it is empty.

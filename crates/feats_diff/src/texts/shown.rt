@@ -1,5 +1,5 @@
 //! The differences of two plans, as the lines show them.
-use plan_lines::Shown;
+use feats_lines::Shown;
 
 /// A feature that comes.
 #[derive(Drop)]

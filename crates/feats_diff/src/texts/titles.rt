@@ -3,10 +3,10 @@ ghost use Rattle.std.specs.Prelude.{◌≡◌, ◌++◌, IfOk, OnOk, string_byte
 ghost use Rattle.cargo_workspaces.specs.Views.{package_text};
 ghost use Rattle.feats_diff.specs.texts.Titles as spec;
 ghost use Rattle.feats_diff.specs.texts.inner.Names.{AreRepeated, names_text};
-ghost use Rattle.plan_lines.specs.Lines.{source_text};
+ghost use Rattle.feats_lines.specs.Lines.{source_text};
 
 use cargo_workspaces::Package;
-use plan_lines::label_of;
+use feats_lines::label_of;
 use std::alloc::{AllocError, Global};
 use std::collections::BTreeSet;
 

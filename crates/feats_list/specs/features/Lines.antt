@@ -4,7 +4,7 @@ use Rattle.feature_labels.specs.Names.{LabelName, label_text}
 use Rattle.cargo_workspaces.specs.Workspaces.{Text, PackageText}
 use Rattle.plan_rows.specs.declared.side.Side.{Side}
 use Rattle.feats_list.specs.features.Lists.{ListedText, has_two_sides, listed}
-use Rattle.plan_lines.specs.parts.Tables.{RowText, table_of}
+use Rattle.feats_lines.specs.parts.Tables.{RowText, table_of}
 
 -- The word for the sides on which a label is built. If its package is built on both sides, the word says on which the label is.
 abbrev pub on_word : Bool → Bool → Bool → Text

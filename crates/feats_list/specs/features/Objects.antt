@@ -6,7 +6,7 @@ use Rattle.feature_labels.specs.Names.LabelName.{base, named, optional}
 use Rattle.cargo_workspaces.specs.Workspaces.{Text, PackageText}
 use Rattle.plan_rows.specs.declared.side.Side.{Side}
 use Rattle.feats_list.specs.features.Lists.{ListedText, listed}
-use Rattle.plan_lines.specs.parts.Members.{flag_member, object_line, optional_member, text_member, texts_member}
+use Rattle.feats_lines.specs.parts.Members.{flag_member, object_line, optional_member, text_member, texts_member}
 
 -- The name, if the label is a feature.
 abbrev pub feature_name : LabelName → Option Text

@@ -2,7 +2,7 @@
 use Rattle.std.specs.Prelude.{◌≡◌, ℕ, List, [], ◌∷◌, ◌++◌, Bool, ◌==◌, map, flat_map, length, nat_lt, codes, if◌then◌else◌}
 use Rattle.std.specs.Fmt.{decimal}
 use Rattle.cargo_workspaces.specs.Workspaces.{Text}
-use Rattle.plan_lines.specs.parts.Tables.{RowText, table_of}
+use Rattle.feats_lines.specs.parts.Tables.{RowText, table_of}
 use Rattle.plan_rows.specs.platforms.DeclaredSpecs.{DeclaredText}
 use Rattle.feats_list.specs.platforms.Lists.{AreListed, ListedText, PlaceText}
 

@@ -2,7 +2,7 @@
 use Rattle.std.specs.Prelude.{◌≡◌, List, ◌∷◌, ◌++◌, flat_map, codes}
 use Rattle.json.specs.Token.{Token, begin_object}
 use Rattle.cargo_workspaces.specs.Workspaces.{Text}
-use Rattle.plan_lines.specs.parts.Members.{number_member, object_line, text_member, texts_member}
+use Rattle.feats_lines.specs.parts.Members.{number_member, object_line, text_member, texts_member}
 use Rattle.plan_rows.specs.platforms.DeclaredSpecs.{DeclaredText}
 use Rattle.feats_list.specs.platforms.Lists.{AreListed, ListedText, PlaceText}
 

@@ -5,13 +5,13 @@ ghost use Rattle.cargo_workspaces.specs.Views.{package_text, texts};
 ghost use Rattle.feature_labels.specs.Names.{label_of, label_text};
 ghost use Rattle.feats_list.specs.features.Lines as spec;
 ghost use Rattle.feats_list.specs.features.inner.Listed.{listed_text};
-ghost use Rattle.plan_lines.specs.parts.Views.{row_text};
+ghost use Rattle.feats_lines.specs.parts.Views.{row_text};
 
 use crate::features::listed::{Listed, has_two_sides, listed_package};
 use cargo_plans::built_parts::BuiltParts;
 use cargo_workspaces::Package;
 use feature_labels::FeatureLabel;
-use plan_lines::parts::{Row, table_of};
+use feats_lines::parts::{Row, table_of};
 use std::alloc::{AllocError, Global};
 
 /// Returns the text of `label`.

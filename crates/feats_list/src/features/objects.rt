@@ -5,14 +5,14 @@ ghost use Rattle.cargo_workspaces.specs.Views.{package_text};
 ghost use Rattle.feature_labels.specs.Names.{label_of};
 ghost use Rattle.feats_list.specs.features.Objects as spec;
 ghost use Rattle.feats_list.specs.features.inner.Listed.{listed_text};
-ghost use Rattle.plan_lines.specs.parts.Members.{Appends};
+ghost use Rattle.feats_lines.specs.parts.Members.{Appends};
 
 use crate::features::listed::{Listed, listed_package};
 use cargo_plans::built_parts::BuiltParts;
 use cargo_workspaces::Package;
 use feature_labels::FeatureLabel;
 use json::Writer;
-use plan_lines::parts::{
+use feats_lines::parts::{
     begin_line, end_line, write_flag, write_member, write_optional, write_texts,
 };
 use std::alloc::{AllocError, Global};

@@ -1,7 +1,7 @@
 //! The specs as text in columns.
 ghost use Rattle.std.specs.Prelude.{◌≡◌, ◌++◌, IfOk, OnOk, map, flat_map, string_bytes};
 ghost use Rattle.cargo_workspaces.specs.Views.{texts};
-ghost use Rattle.plan_lines.specs.parts.Views.{row_text};
+ghost use Rattle.feats_lines.specs.parts.Views.{row_text};
 ghost use Rattle.plan_rows.specs.platforms.Views.{declared_text};
 ghost use Rattle.feats_list.specs.platforms.Lines as spec;
 ghost use Rattle.feats_list.specs.platforms.Lines.{IsSpecLines};
@@ -10,7 +10,7 @@ ghost use Rattle.feats_list.specs.platforms.inner.Listed.{listed_text};
 
 use crate::platforms::listed::{Listed, listed_specs};
 use crate::platforms::places::NamedPlatform;
-use plan_lines::parts::{Row, table_of};
+use feats_lines::parts::{Row, table_of};
 use plan_rows::Platform;
 use plan_rows::platforms::DeclaredSpec;
 use std::alloc::{AllocError, Global};

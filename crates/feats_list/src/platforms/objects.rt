@@ -1,6 +1,6 @@
 //! The specs as JSON objects.
 ghost use Rattle.std.specs.Prelude.{◌≡◌, ◌++◌, IfOk, OnOk, map};
-ghost use Rattle.plan_lines.specs.parts.Members.{Appends};
+ghost use Rattle.feats_lines.specs.parts.Members.{Appends};
 ghost use Rattle.plan_rows.specs.platforms.Views.{declared_text};
 ghost use Rattle.feats_list.specs.platforms.Objects as spec;
 ghost use Rattle.feats_list.specs.platforms.Objects.{IsSpecObjects};
@@ -10,7 +10,7 @@ ghost use Rattle.feats_list.specs.platforms.inner.Listed.{listed_text};
 use crate::platforms::listed::{Listed, listed_specs};
 use crate::platforms::places::NamedPlatform;
 use json::Writer;
-use plan_lines::parts::{begin_line, end_line, write_member, write_number, write_texts};
+use feats_lines::parts::{begin_line, end_line, write_member, write_number, write_texts};
 use plan_rows::Platform;
 use plan_rows::platforms::DeclaredSpec;
 use std::alloc::{AllocError, Global};

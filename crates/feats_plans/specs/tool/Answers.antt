@@ -12,7 +12,7 @@ use Rattle.feats_plans.specs.tool.Rules.{AreRules, IsRulesRefusal}
 use Rattle.feats_words.specs.Requests.{QuestionText, check}
 use Rattle.feats_plans.specs.tool.lost_dependencies.Lost.{lost_lines}
 use Rattle.feats_check.specs.checking.Warnings.{ArePolicyWarnings, IsStrictRefusal, PolicyWordsText}
-use Rattle.policies.specs.Rules.{RuleText}
+use Rattle.feats_policies.specs.Rules.{RuleText}
 use Rattle.shown_texts.specs.Plain.{is_plain}
 
 -- What is asked by the arguments, with these rules of the policy.

@@ -3,9 +3,9 @@ use Rattle.std.specs.Prelude.{◌≡◌, List, [], ◌∷◌, IsUtf8, codes}
 use Rattle.cargo_workspaces.specs.Workspaces.{Text}
 use Rattle.feats_files.specs.Messages.{joined}
 use Rattle.feats_words.specs.Requests.{QuestionText, check}
-use Rattle.policies.specs.Policies.{ArePolicy, IsPolicyFault}
-use Rattle.policies.specs.Rules.{RuleText}
-use Rattle.policies.specs.declared.fault.PolicyFault.{PolicyFault}
+use Rattle.feats_policies.specs.Policies.{ArePolicy, IsPolicyFault}
+use Rattle.feats_policies.specs.Rules.{RuleText}
+use Rattle.feats_policies.specs.declared.fault.PolicyFault.{PolicyFault}
 use Rattle.feats_check.specs.texts.Messages.{IsPolicyMessage}
 
 -- The rules of the bytes of the policy's file; none, if the question names no policy.

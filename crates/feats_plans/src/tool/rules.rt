@@ -3,13 +3,13 @@ ghost use Rattle.std.specs.Prelude.{◌≡◌, IfOk, IfErr, IsUtf8, map};
 ghost use Rattle.feats_files.specs.Messages.{Says};
 ghost use Rattle.feats_plans.specs.tool.Rules as spec;
 ghost use Rattle.feats_words.specs.Views.{question_text};
-ghost use Rattle.policies.specs.Policies.{ArePolicy};
-ghost use Rattle.policies.specs.Views.{rule_text};
+ghost use Rattle.feats_policies.specs.Policies.{ArePolicy};
+ghost use Rattle.feats_policies.specs.Views.{rule_text};
 
 use feats_check::texts::policy_refused;
 use feats_files::{Fault, refused};
 use feats_words::Question;
-use policies::{PolicyFault, Rule, parse};
+use feats_policies::{PolicyFault, Rule, parse};
 use std::alloc::Global;
 use std::str;
 

@@ -10,7 +10,7 @@ ghost use Rattle.feats_plans.specs.tool.Answers.{AreRuleWarnings, AreWarnings, I
 ghost use Rattle.feats_check.specs.checking.WarningViews.{string_texts};
 ghost use Rattle.plan_rows.specs.platforms.DeclaredSpecs.{declared_specs};
 ghost use Rattle.plan_rows.specs.platforms.Views.{declared_text};
-ghost use Rattle.policies.specs.Views.{rule_text};
+ghost use Rattle.feats_policies.specs.Views.{rule_text};
 
 use crate::tool::answered::Answered;
 use crate::tool::lost_dependencies::lost_lines;
@@ -19,7 +19,7 @@ use feats_answers::{Answer, Asked, answer_to};
 use feats_check::checking::{PolicyWords, policy_warnings};
 use feats_files::Fault;
 use feats_words::Question;
-use policies::Rule;
+use feats_policies::Rule;
 use std::alloc::Global;
 
 /// Returns the warnings about `rules`, those of the policy; none, if the arguments name no policy.

@@ -4,7 +4,7 @@ use Rattle.json.specs.Token.{Token, begin_object}
 use Rattle.cargo_workspaces.specs.Workspaces.{DeclarationText, PackageText, Text}
 use Rattle.cargo_workspaces.specs.declared.package.Kind.{Kind}
 use Rattle.cargo_workspaces.specs.declared.package.Kind.TheVariants as kind
-use Rattle.plan_lines.specs.parts.Members.{number_member, object_line, optional_member, text_member}
+use Rattle.feats_lines.specs.parts.Members.{number_member, object_line, optional_member, text_member}
 use Rattle.feats_slim.specs.edits.Orders.{SlimText}
 use Rattle.cargo_manifests.specs.Edits.{WithoutText, defaults, feature}
 use Rattle.feats_slim.specs.answers.Shown.{ShownPlaceText, ShownText, all_shown, declared, inherited}

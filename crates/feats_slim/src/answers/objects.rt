@@ -1,7 +1,7 @@
 //! Edits by which a build is smaller, as JSON objects.
 ghost use Rattle.std.specs.Prelude.{◌≡◌, ◌++◌, IfOk, OnOk, codes, map, flat_map, option_map};
 ghost use Rattle.cargo_workspaces.specs.Views.{declaration_text, package_text};
-ghost use Rattle.plan_lines.specs.parts.Members.{Appends, text_member};
+ghost use Rattle.feats_lines.specs.parts.Members.{Appends, text_member};
 ghost use Rattle.feats_slim.specs.edits.SlimViews.{slim_text};
 ghost use Rattle.cargo_manifests.specs.EditViews.{without_text};
 ghost use Rattle.feats_slim.specs.answers.Objects as spec;
@@ -11,7 +11,7 @@ use crate::answers::shown::{Shown, ShownPlace, all_shown};
 use crate::edits::{Slim, Without};
 use cargo_workspaces::{Declaration, Kind, Package};
 use json::Writer;
-use plan_lines::parts::{begin_line, end_line, write_member, write_number, write_optional};
+use feats_lines::parts::{begin_line, end_line, write_member, write_number, write_optional};
 use std::alloc::{AllocError, Global};
 
 /// Returns the word for a declaration of kind `kind`.

@@ -2,7 +2,7 @@
 ghost use Rattle.std.specs.Prelude.{◌≡◌, ◌++◌, ◌-◌, IfOk, OnOk, codes, length, option_map, replicate, string_bytes};
 ghost use Rattle.std.specs.Fmt.{decimal};
 ghost use Rattle.cargo_workspaces.specs.Views.{declaration_text, package_text};
-ghost use Rattle.plan_lines.specs.parts.Views.{row_text};
+ghost use Rattle.feats_lines.specs.parts.Views.{row_text};
 ghost use Rattle.cargo_manifests.specs.EditViews.{without_text};
 ghost use Rattle.feats_slim.specs.answers.Lines as spec;
 ghost use Rattle.feats_slim.specs.answers.Views.{shown_text};
@@ -10,7 +10,7 @@ ghost use Rattle.feats_slim.specs.answers.Views.{shown_text};
 use crate::answers::shown::{Shown, ShownPlace};
 use crate::edits::Without;
 use cargo_workspaces::{Declaration, Kind, Package};
-use plan_lines::parts::Row;
+use feats_lines::parts::Row;
 use std::alloc::{AllocError, Global};
 
 /// Returns the decimal text of `number`.

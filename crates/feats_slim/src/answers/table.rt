@@ -1,7 +1,7 @@
 //! Edits by which a build is smaller, as text in columns.
 ghost use Rattle.std.specs.Prelude.{◌≡◌, ◌++◌, ◌∷◌, [], IfOk, map, string_bytes};
 ghost use Rattle.cargo_workspaces.specs.Views.{package_text};
-ghost use Rattle.plan_lines.specs.parts.Views.{row_text};
+ghost use Rattle.feats_lines.specs.parts.Views.{row_text};
 ghost use Rattle.feats_slim.specs.edits.SlimViews.{slim_text};
 ghost use Rattle.feats_slim.specs.answers.Lines as spec;
 ghost use Rattle.feats_slim.specs.answers.Views.{shown_text};
@@ -10,7 +10,7 @@ use crate::answers::rows::{row_of, title_row};
 use crate::answers::shown::{Shown, all_shown};
 use crate::edits::Slim;
 use cargo_workspaces::Package;
-use plan_lines::parts::{Row, table_of};
+use feats_lines::parts::{Row, table_of};
 use std::alloc::{AllocError, Global};
 
 /// Returns the row of the titles, and one for each of `shown`.

@@ -4,7 +4,7 @@ use Rattle.cargo_workspaces.specs.Workspaces.{Text, PackageText}
 use Rattle.feats_tree.specs.trees.Titles.{TitleText}
 use Rattle.feats_tree.specs.packages.Titles.{id_at, titles_with}
 use Rattle.plan_whys.specs.Steps.{SpotText}
-use Rattle.why_lines.specs.Labels.{spot_label}
+use Rattle.feats_why.specs.Labels.{spot_label}
 
 abbrev pub labels_of : List PackageText → Bool → List SpotText → List Text
 labels_of packages sides spots = map (spot_label packages sides) spots

@@ -4,7 +4,7 @@ use Rattle.std.specs.List.{zip}
 use Rattle.std.specs.Option.{option_map_or}
 use Rattle.cargo_workspaces.specs.Workspaces.{Text, PackageText}
 use Rattle.feats_tree.specs.trees.Titles.{TitleText}
-use Rattle.plan_lines.specs.Lines.{label_of, name_of}
+use Rattle.feats_lines.specs.Lines.{label_of, name_of}
 use Rattle.cargo_plans.specs.plan_units.Units.{UnitText}
 use Rattle.cargo_plans.specs.declared.plan_units.unit.Place.{Place}
 use Rattle.cargo_plans.specs.declared.plan_units.unit.Place.TheVariants as place

@@ -1,7 +1,7 @@
 -- The JSON objects of trees.
 use Rattle.std.specs.Prelude.{List, ◌∷◌, ◌++◌, flat_map, codes}
 use Rattle.json.specs.Token.{Token, begin_object}
-use Rattle.plan_lines.specs.parts.Members.{flag_member, number_member, object_line, text_member}
+use Rattle.feats_lines.specs.parts.Members.{flag_member, number_member, object_line, text_member}
 use Rattle.feats_tree.specs.trees.Titles.{Text, TitleText, id_at, title_at}
 use Rattle.feats_tree.specs.declared.trees.trees.Branch.{Branch}
 

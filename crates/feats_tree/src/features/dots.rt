@@ -13,7 +13,7 @@ use cargo_plans::plan_steps::Plan;
 use cargo_workspaces::Workspace;
 use plan_whys::links::{Side, Spot, on_spots, spot_links};
 use std::alloc::{AllocError, Global};
-use why_lines::spot_labels;
+use feats_why::spot_labels;
 
 /// Returns the number of the cluster of `spot`: the target side, the host side, or none of them for a command feature.
 fn cluster_of(spot: Spot<'_>) -> usize

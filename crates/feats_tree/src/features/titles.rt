@@ -12,7 +12,7 @@ use cargo_workspaces::{Package, Workspace};
 use feats_words::Format;
 use plan_whys::links::Spot;
 use std::alloc::{AllocError, Global};
-use why_lines::spot_labels;
+use feats_why::spot_labels;
 
 /// Returns the id of the package of each of `spots`.
 fn ids_of<'p>(

@@ -1,14 +1,14 @@
 //! The titles of the packages that a plan builds.
 ghost use Rattle.std.specs.Prelude.{◌≡◌, ◌++◌, IfOk, OnOk, map, option_map, slice_get, string_bytes};
 ghost use Rattle.cargo_workspaces.specs.Views.{package_text, texts};
-ghost use Rattle.plan_lines.specs.Lines.{name_of};
-ghost use Rattle.plan_lines.specs.Repeats.{HasRepeated};
+ghost use Rattle.feats_lines.specs.Lines.{name_of};
+ghost use Rattle.feats_lines.specs.Repeats.{HasRepeated};
 ghost use Rattle.cargo_plans.specs.plan_units.UnitViews.{unit_text};
 ghost use Rattle.feats_tree.specs.packages.Titles as spec;
 
 use cargo_plans::plan_steps::{Place, Unit};
 use cargo_workspaces::Package;
-use plan_lines::{label_of, names_of, repeated_in};
+use feats_lines::{label_of, names_of, repeated_in};
 use std::alloc::{AllocError, Global};
 use std::collections::BTreeSet;
 

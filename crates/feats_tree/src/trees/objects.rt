@@ -1,13 +1,13 @@
 //! Branches as JSON objects.
 ghost use Rattle.std.specs.Prelude.{◌≡◌, ◌++◌, IfOk, OnOk, map};
-ghost use Rattle.plan_lines.specs.parts.Members.{Appends};
+ghost use Rattle.feats_lines.specs.parts.Members.{Appends};
 ghost use Rattle.feats_tree.specs.trees.Objects as spec;
 ghost use Rattle.feats_tree.specs.trees.Titles.{title_text};
 
 use crate::trees::titles::{Title, id_of, title_of};
 use crate::trees::trees::Branch;
 use json::Writer;
-use plan_lines::parts::{begin_line, end_line, write_flag, write_member, write_number};
+use feats_lines::parts::{begin_line, end_line, write_flag, write_member, write_number};
 use std::alloc::{AllocError, Global};
 
 /// Writes the members of `branch`.

@@ -5,8 +5,8 @@ use Rattle.cargo_plans.specs.plan_units.Units.{UnitText}
 use Rattle.cargo_plans.specs.plan_steps.Plans.{PlanText}
 use Rattle.cargo_plans.specs.Plans.{IsPlanOf, WordsText}
 use Rattle.laws.specs.plans.Widening.{IsCovered, IsOnIn, IsWidest}
-use Rattle.policies.specs.checks.Builds.{BuildText, is_every, is_platform}
-use Rattle.policies.specs.checks.Found.{denied, denied_on, kept}
+use Rattle.feats_policies.specs.checks.Builds.{BuildText, is_every, is_platform}
+use Rattle.feats_policies.specs.checks.Found.{denied, denied_on, kept}
 
 -- The words of rules mean the same in two builds, and all that is on in the first is on in the second.
 pub record HasNoMoreOn (c b : BuildText) : Type 0 where

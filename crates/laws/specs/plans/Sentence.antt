@@ -6,8 +6,8 @@ use Rattle.cargo_plans.specs.Plans.{IsPlanOf, WordsText}
 use Rattle.feats_words.specs.declared.command_arguments.Format.TheVariants as format
 use Rattle.laws.specs.plans.NoChoice.{HoldsEach}
 use Rattle.laws.specs.plans.Widening.{IsCovered, IsOffInPlan}
-use Rattle.why_nots.specs.Parts.{PartText}
-use Rattle.why_nots.specs.Texts.{IsWhyNotText}
+use Rattle.feats_why_not.specs.Parts.{PartText}
+use Rattle.feats_why_not.specs.Texts.{IsWhyNotText}
 use Rattle.plan_names.specs.wider.texts.Laws.{EndsWithLine}
 use Rattle.plan_names.specs.wider.texts.Lines.{sentence}
 

@@ -5,7 +5,7 @@ use Rattle.feats_diff.specs.texts.Shown.{DifferenceText, TurnedText, changed, co
 use Rattle.feats_diff.specs.changes.Changes.{ChangeText, keeps_features}
 use Rattle.feats_diff.specs.changes.Differences.{DifferencesText}
 use Rattle.feats_diff.specs.changes.Parts.{PartText}
-use Rattle.plan_lines.specs.Lines.{ShownText}
+use Rattle.feats_lines.specs.Lines.{ShownText}
 use Rattle.cargo_plans.specs.plan_starts.Lists.{joined_from}
 use Rattle.feats.specs.comparisons.differences.Whys.{WhysText}
 

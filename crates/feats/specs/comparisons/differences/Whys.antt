@@ -18,7 +18,7 @@ use Rattle.cargo_plans.specs.declared.plan_units.unit.Place.{Place}
 use Rattle.cargo_plans.specs.declared.plan_units.unit.Place.TheVariants as place
 use Rattle.plan_whys.specs.Steps.{SpotText, WhyText}
 use Rattle.plan_whys.specs.Whys.{Answers}
-use Rattle.why_lines.specs.Lines.{why_lines}
+use Rattle.feats_why.specs.Lines.{why_lines}
 use Rattle.feats.specs.comparisons.differences.Builds.{BuildText}
 
 -- The side whose features a place has.

@@ -5,11 +5,11 @@ ghost use Rattle.feats_diff.specs.texts.Shown.{gone as text_of_gone};
 ghost use Rattle.feats_diff.specs.texts.Views.{difference_text, turned_text};
 ghost use Rattle.feats.specs.comparisons.differences.Shown as spec;
 ghost use Rattle.feats_diff.specs.changes.Views.{change_text, part_text};
-ghost use Rattle.plan_lines.specs.Views.{shown_text};
+ghost use Rattle.feats_lines.specs.Views.{shown_text};
 
 use feats_diff::changes::{Change, Part};
 use feats_diff::texts::{Difference, Turned};
-use plan_lines::Shown;
+use feats_lines::Shown;
 use std::alloc::{AllocError, Global};
 
 /// Returns `part` as it is shown.

@@ -8,8 +8,8 @@ ghost use Rattle.feats.specs.comparisons.differences.Whys as spec;
 ghost use Rattle.feats_diff.specs.changes.Views.{change_text, differences_text, part_text};
 ghost use Rattle.plan_rows.specs.platforms.HeldSpecs.{holds_on};
 ghost use Rattle.plan_whys.specs.StepViews.{found_text, spot_text, why_text};
-ghost use Rattle.why_lines.specs.Settings.{settings_text};
-ghost use Rattle.why_lines.specs.Views.{steps_text};
+ghost use Rattle.feats_why.specs.Settings.{settings_text};
+ghost use Rattle.feats_why.specs.Views.{steps_text};
 
 use crate::comparisons::differences::builds::Build;
 use cargo_plans::{Place, Side};
@@ -18,7 +18,7 @@ use feature_labels::FeatureLabel;
 use plan_rows::platforms::HeldSpecs;
 use plan_whys::{Spot, WhyStep, why_each};
 use std::alloc::{AllocError, Global};
-use why_lines::{WhySettings, each_why_lines};
+use feats_why::{WhySettings, each_why_lines};
 
 /// The last steps of each `why`.
 #[derive(Drop)]

@@ -5,10 +5,10 @@ use Rattle.cargo_workspaces.specs.WorkspaceView.{workspace_text}
 use Rattle.plan_names.specs.Views.{named_text}
 use Rattle.plan_rows.specs.platforms.HeldSpecs.{holds_on}
 use Rattle.cargo_plans.specs.plan_steps.PlanViews.{plan_text}
-use Rattle.why_nots.specs.PartView.{part_text}
-use Rattle.why_nots.specs.Parts.{PartText}
-use Rattle.why_nots.specs.Texts.{IsWhyNotText}
-use Rattle.why_nots.specs.Typed.{is_single}
+use Rattle.feats_why_not.specs.PartView.{part_text}
+use Rattle.feats_why_not.specs.Parts.{PartText}
+use Rattle.feats_why_not.specs.Texts.{IsWhyNotText}
+use Rattle.feats_why_not.specs.Typed.{is_single}
 use Rattle.feats_answers.specs.AnswerViews.{texts_of}
 use Rattle.feats_answers.specs.Gathered.{gathered}
 use Rattle.feats_answers.specs.WhyNotTexts.{off_parts, on_end}

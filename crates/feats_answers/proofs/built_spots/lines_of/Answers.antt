@@ -6,7 +6,7 @@ use Rattle.cargo_plans.specs.WordsView.{words_text}
 use Rattle.cargo_workspaces.specs.WorkspaceView.{workspace_text}
 use Rattle.plan_rows.specs.platforms.HeldSpecs.{holds_on}
 use Rattle.plan_whys.specs.StepViews.{spot_text}
-use Rattle.why_lines.specs.Unbuilt.{UnbuiltText, unbuilt_lines, unbuilt_text}
+use Rattle.feats_why.specs.Unbuilt.{UnbuiltText, unbuilt_lines, unbuilt_text}
 use Rattle.feats_answers.proofs.Built.{same_scripts}
 use Rattle.feats_answers.proofs.built_spots.lines_of.Goals as goal
 

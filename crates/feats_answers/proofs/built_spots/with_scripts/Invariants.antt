@@ -1,7 +1,7 @@
 use Rattle.std.proofs.Common.{◌≡◌, ◌++◌, drop, map}
 use Rattle.cargo_plans.specs.built_parts.BuiltViews.{script_in}
 use Rattle.plan_whys.specs.StepViews.{spot_text}
-use Rattle.why_lines.specs.Unbuilt.{unbuilt_text}
+use Rattle.feats_why.specs.Unbuilt.{unbuilt_text}
 use Rattle.feats_answers.specs.BuiltSpots as spec
 use Rattle.feats_answers.proofs.built_spots.with_scripts.Given as goal
 

@@ -1,7 +1,7 @@
 use Rattle.std.proofs.Common.{◌≡◌, ◌++◌, drop, map}
 use Rattle.cargo_plans.specs.built_parts.BuiltViews.{is_built_in}
 use Rattle.plan_names.specs.Views.{named_text}
-use Rattle.why_nots.specs.PartView.{part_text}
+use Rattle.feats_why_not.specs.PartView.{part_text}
 use Rattle.feats_answers.specs.WhyNotTexts as spec
 use Rattle.feats_answers.proofs.off_parts.unbuilt_parts.Given as goal
 

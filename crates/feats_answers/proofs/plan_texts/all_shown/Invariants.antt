@@ -1,7 +1,7 @@
 use Rattle.std.proofs.Common.{◌≡◌, ◌++◌, map, drop}
 use Rattle.cargo_workspaces.specs.Views.{texts}
 use Rattle.cargo_workspaces.specs.WorkspaceView.{workspace_text}
-use Rattle.plan_lines.specs.Views.{shown_text}
+use Rattle.feats_lines.specs.Views.{shown_text}
 use Rattle.cargo_plans.specs.plan_units.UnitViews.{unit_text}
 use Rattle.feats_answers.specs.PlanTexts as spec
 use Rattle.feats_answers.proofs.plan_texts.all_shown.Given as goal

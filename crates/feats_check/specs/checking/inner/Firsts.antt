@@ -1,7 +1,7 @@
 -- The first rule whose word names nothing.
 use Rattle.std.specs.Prelude.{◌≡◌, List, [], Bool, true, Some, map, slice_get}
 use Rattle.cargo_workspaces.specs.Workspaces.{Text}
-use Rattle.policies.specs.Rules.{RuleText}
+use Rattle.feats_policies.specs.Rules.{RuleText}
 use Rattle.feats_check.specs.texts.Messages.{unmatched_message}
 
 -- There is none, if each word must name something.

@@ -10,7 +10,7 @@ use Rattle.feats_check.specs.checking.Questions.{QuestionText}
 use Rattle.feats_check.specs.checking.Scenes.{SceneText, ScenesText, scene_of}
 use Rattle.feats_check.specs.declared.checking.planned.WidePlans.{WidePlans}
 use Rattle.feats_check.specs.declared.checking.planned.WideWords.{WideWords}
-use Rattle.policies.specs.declared.checks.judged.Judged.TheVariants.{ForEveryChoice, WithAll}
+use Rattle.feats_policies.specs.declared.checks.judged.Judged.TheVariants.{ForEveryChoice, WithAll}
 
 -- The plans are those of the words.
 pub record AreWidePlans (w : WorkspaceText) (words : WideWords) (plans : WidePlans) : Type 0 where

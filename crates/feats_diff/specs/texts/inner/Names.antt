@@ -1,6 +1,6 @@
 -- The names that several packages have.
 use Rattle.std.specs.Prelude.{map, string_bytes}
-use Rattle.plan_lines.specs.Repeats.{HasRepeated}
+use Rattle.feats_lines.specs.Repeats.{HasRepeated}
 use Rattle.feats_diff.specs.texts.Titles.{NamesText}
 use Rattle.feats_diff.specs.declared.texts.titles.Repeated.{Repeated}
 

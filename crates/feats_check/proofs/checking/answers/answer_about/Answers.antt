@@ -10,7 +10,7 @@ use Rattle.cargo_plans.specs.plan_steps.PlanViews.{plan_text}
 use Rattle.feats_check.specs.checking.Answers.{IsRefusalWith}
 use Rattle.feats_check.specs.checking.QuestionViews.{question_text}
 use Rattle.feats_check.specs.checking.Scenes.{scene_of}
-use Rattle.policies.specs.declared.checks.judged.Judged.TheVariants.{InBuild}
+use Rattle.feats_policies.specs.declared.checks.judged.Judged.TheVariants.{InBuild}
 use Rattle.feats_check.proofs.Scened.{alone, unchecked}
 use Rattle.feats_check.proofs.checking.answers.answer_about.Goals as goal
 

@@ -8,7 +8,7 @@ use Rattle.plan_words.specs.Choices.{chosen_text}
 use Rattle.feats_check.specs.checking.Answers.{IsAnswerWith, IsPolicyRefusal, IsRefusalWith}
 use Rattle.feats_check.specs.checking.QuestionViews.{printed_text, question_text}
 use Rattle.feats_check.specs.checking.Scenes.{scene_of}
-use Rattle.policies.specs.declared.checks.judged.Judged.TheVariants.{InBuild}
+use Rattle.feats_policies.specs.declared.checks.judged.Judged.TheVariants.{InBuild}
 use Rattle.feats_check.proofs.Scened.{err_more}
 use Rattle.feats_check.proofs.checking.answers.policy_answer.Goals as goal
 

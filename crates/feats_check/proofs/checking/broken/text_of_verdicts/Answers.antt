@@ -6,7 +6,7 @@ use Rattle.feats_check.specs.checking.inner.Grown.{Grows}
 use Rattle.feats_check.specs.checking.inner.PlannedViews.{scene_by}
 use Rattle.feats_check.proofs.Printed.{printed_more}
 use Rattle.feats_check.proofs.checking.broken.text_of_verdicts.Goals as goal
-use Rattle.policies.specs.checks.Views.{verdict_text}
+use Rattle.feats_policies.specs.checks.Views.{verdict_text}
 
 pub loop-verdict-preserved : goal.loop-verdict-preserved
 loop-verdict-preserved c =

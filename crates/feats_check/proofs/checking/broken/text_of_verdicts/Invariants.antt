@@ -4,7 +4,7 @@ use Rattle.feats_check.specs.checking.Broken.{ArePrinted, broken_in}
 use Rattle.feats_check.specs.checking.QuestionViews.{question_text}
 use Rattle.feats_check.specs.checking.inner.PlannedViews.{scene_by}
 use Rattle.feats_check.proofs.checking.broken.text_of_verdicts.Given as goal
-use Rattle.policies.specs.checks.Views.{verdict_text}
+use Rattle.feats_policies.specs.checks.Views.{verdict_text}
 
 abbrev pub invariant-loop-verdict : goal.invariant-loop-verdict
 invariant-loop-verdict l =

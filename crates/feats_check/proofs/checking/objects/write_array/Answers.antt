@@ -1,6 +1,6 @@
 use Rattle.std.proofs.Common.{[], ◌∷◌}
 use Rattle.json.specs.Token.{begin_array}
-use Rattle.plan_lines.proofs.Tokens.{appended, on_ok, wrote}
+use Rattle.feats_lines.proofs.Tokens.{appended, on_ok, wrote}
 use Rattle.feats_check.proofs.checking.objects.write_array.Goals as goal
 
 pub returns : goal.returns

@@ -2,12 +2,12 @@ use Rattle.std.proofs.Common.{◌≡◌, ◌∙◌, ap, List, ◌++◌, map}
 use Rattle.cargo_workspaces.specs.WorkspaceView.{workspace_text}
 use Rattle.cargo_workspaces.specs.Workspaces.{PackageText}
 use Rattle.json.specs.Written.{Written}
-use Rattle.plan_lines.proofs.Tokens.{on_ok}
-use Rattle.plan_lines.specs.parts.Members.{Appends}
+use Rattle.feats_lines.proofs.Tokens.{on_ok}
+use Rattle.feats_lines.specs.parts.Members.{Appends}
 use Rattle.plan_whys.specs.StepViews.{why_text}
 use Rattle.plan_whys.specs.Steps.{WhyText}
-use Rattle.why_lines.specs.Objects as why
-use Rattle.why_lines.specs.Settings.{SettingsText}
+use Rattle.feats_why.specs.Objects as why
+use Rattle.feats_why.specs.Settings.{SettingsText}
 use Rattle.feats_check.proofs.checking.objects.write_objects.Goals as goal
 
 -- the objects of these steps

@@ -1,7 +1,7 @@
 use Rattle.std.proofs.Common.{[], ◌∷◌}
 use Rattle.std.specs.Prelude.{codes}
 use Rattle.json.specs.Token.{begin_array, key}
-use Rattle.plan_lines.proofs.Tokens.{appended, on_ok, wrote}
+use Rattle.feats_lines.proofs.Tokens.{appended, on_ok, wrote}
 use Rattle.feats_check.proofs.checking.objects.write_whys.Goals as goal
 
 pub returns : goal.returns

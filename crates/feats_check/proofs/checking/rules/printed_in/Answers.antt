@@ -1,13 +1,13 @@
 use Rattle.std.proofs.Common.{List, map, subst}
 use Rattle.cargo_workspaces.specs.WorkspaceView.{workspace_text}
-use Rattle.policies.specs.Views.{rule_text}
-use Rattle.policies.specs.declared.rule.Rule.{Rule}
+use Rattle.feats_policies.specs.Views.{rule_text}
+use Rattle.feats_policies.specs.declared.rule.Rule.{Rule}
 use Rattle.feats_check.specs.checking.QuestionViews.{question_text}
 use Rattle.feats_check.specs.checking.inner.PlannedViews.{scene_by}
 use Rattle.feats_check.proofs.Refusals.{rule_refused}
 use Rattle.feats_check.proofs.checking.rules.printed_in.Goals as goal
-use Rattle.policies.specs.checks.Checks.{IsFirstRefusal, refusals}
-use Rattle.policies.specs.checks.Views.{refusal_text}
+use Rattle.feats_policies.specs.checks.Checks.{IsFirstRefusal, refusals}
+use Rattle.feats_policies.specs.checks.Views.{refusal_text}
 
 pub returns-in-Err-clause-fault : goal.returns-in-Err-clause-fault
 returns-in-Err-clause-fault c =

@@ -1,6 +1,6 @@
 use Rattle.std.proofs.lemmas.Result.{err_from_is_err_and}
 use Rattle.cargo_workspaces.specs.WorkspaceView.{workspace_text}
-use Rattle.policies.specs.Views.{rule_text}
+use Rattle.feats_policies.specs.Views.{rule_text}
 use Rattle.feats_check.specs.checking.QuestionViews.{printed_text, question_text}
 use Rattle.feats_check.specs.checking.inner.PlannedViews.{scenes_by}
 use Rattle.feats_check.proofs.Printed.{so_more}

@@ -1,6 +1,6 @@
 use Rattle.std.proofs.Common.{map, take}
 use Rattle.cargo_workspaces.specs.WorkspaceView.{workspace_text}
-use Rattle.policies.specs.Views.{rule_text}
+use Rattle.feats_policies.specs.Views.{rule_text}
 use Rattle.feats_check.specs.checking.QuestionViews.{question_text}
 use Rattle.feats_check.specs.checking.inner.PlannedViews.{scenes_by}
 use Rattle.feats_check.proofs.Printed.{IsSo}

@@ -1,7 +1,7 @@
 use Rattle.std.proofs.Common.{◌≡◌, map, drop}
 use Rattle.std.specs.List.{list_any}
-use Rattle.policies.specs.Rules.{RuleText}
-use Rattle.policies.specs.Views.{rule_text}
+use Rattle.feats_policies.specs.Rules.{RuleText}
+use Rattle.feats_policies.specs.Views.{rule_text}
 use Rattle.feats_check.specs.checking.Warnings.{is_for_build}
 use Rattle.feats_check.proofs.checking.warnings.is_any_for_build.Given as goal
 

@@ -1,5 +1,5 @@
 use Rattle.std.proofs.Common.{◌≡◌, ◌++◌, map, drop}
-use Rattle.policies.specs.Views.{rule_text}
+use Rattle.feats_policies.specs.Views.{rule_text}
 use Rattle.feats_check.specs.checking.WarningViews.{string_texts}
 use Rattle.feats_check.specs.texts.Messages.{unmatched_message}
 use Rattle.feats_check.proofs.checking.warnings.push_unmatched.Given as goal

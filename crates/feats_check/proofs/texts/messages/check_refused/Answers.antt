@@ -3,8 +3,8 @@ use Rattle.cargo_workspaces.specs.Workspaces.{Text}
 use Rattle.feats_files.specs.Messages.{Says}
 use Rattle.plan_names.specs.Views.{named_text}
 use Rattle.plan_names.specs.declared.named.Named.{Named}
-use Rattle.policies.specs.checks.Views.{build_text, refusal_text}
-use Rattle.policies.specs.declared.checks.fault.CheckFault.{CheckFault}
+use Rattle.feats_policies.specs.checks.Views.{build_text, refusal_text}
+use Rattle.feats_policies.specs.declared.checks.fault.CheckFault.{CheckFault}
 use Rattle.feats_check.specs.texts.Messages.{IsCheckMessage, platform_message, several_message}
 use Rattle.feats_check.proofs.texts.messages.check_refused.Goals as goal
 

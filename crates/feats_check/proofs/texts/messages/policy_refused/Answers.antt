@@ -1,6 +1,6 @@
 use Rattle.std.proofs.Common.{subst, sym}
 use Rattle.feats_files.specs.Messages.{Says}
-use Rattle.policies.specs.declared.fault.PolicyFault.{PolicyFault}
+use Rattle.feats_policies.specs.declared.fault.PolicyFault.{PolicyFault}
 use Rattle.feats_check.specs.texts.Messages.{IsPolicyMessage, malformed_message}
 use Rattle.feats_check.proofs.texts.messages.policy_refused.Goals as goal
 

@@ -1,8 +1,8 @@
 use Rattle.std.proofs.Common.{◌∙◌, List, ◌∷◌, ◌++◌, ap}
 use Rattle.json.specs.Token.{Token, begin_object}
-use Rattle.policies.specs.Views.{rule_text}
+use Rattle.feats_policies.specs.Views.{rule_text}
 use Rattle.feats_check.specs.texts.Objects.{rule_members}
-use Rattle.plan_lines.proofs.Tokens.{ended}
+use Rattle.feats_lines.proofs.Tokens.{ended}
 use Rattle.feats_check.proofs.texts.objects.push_object.Goals as goal
 
 pub returns : goal.returns

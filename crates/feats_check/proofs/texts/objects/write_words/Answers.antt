@@ -1,4 +1,4 @@
-use Rattle.plan_lines.proofs.Tokens.{appended, on_ok}
+use Rattle.feats_lines.proofs.Tokens.{appended, on_ok}
 use Rattle.feats_check.proofs.texts.objects.write_words.Goals as goal
 
 pub returns : goal.returns

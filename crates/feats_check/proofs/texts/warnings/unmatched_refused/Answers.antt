@@ -1,4 +1,4 @@
-use Rattle.policies.specs.Views.{rule_text}
+use Rattle.feats_policies.specs.Views.{rule_text}
 use Rattle.feats_check.specs.texts.Messages.{unmatched_message}
 use Rattle.feats_check.proofs.texts.warnings.unmatched_refused.Goals as goal
 

@@ -1,6 +1,6 @@
 use Rattle.std.proofs.Common.{◌≡◌, ◌++◌, flat_map, map, drop}
 use Rattle.std.specs.String.{string_bytes}
-use Rattle.plan_lines.specs.Lines.{spaced}
+use Rattle.feats_lines.specs.Lines.{spaced}
 use Rattle.feats_diff.specs.texts.inner.Words.{word_text}
 use Rattle.feats_diff.proofs.texts.columns.push_words.Given as goal
 

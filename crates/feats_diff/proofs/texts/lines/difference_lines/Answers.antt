@@ -5,7 +5,7 @@ use Rattle.cargo_workspaces.specs.Views.{package_text}
 use Rattle.feats_diff.specs.texts.Lines.{lines_by}
 use Rattle.feats_diff.specs.texts.Views.{difference_text}
 use Rattle.feats_diff.proofs.Tokens.{ok_with}
-use Rattle.plan_lines.specs.Lines.{name_of}
+use Rattle.feats_lines.specs.Lines.{name_of}
 use Rattle.feats_diff.proofs.texts.lines.difference_lines.Goals as goal
 
 pub returns : goal.returns

@@ -2,7 +2,7 @@ use Rattle.std.proofs.Common.{◌≡◌, ◌++◌, flat_map, map, drop}
 use Rattle.feats_diff.specs.texts.Lines.{rows_of}
 use Rattle.feats_diff.specs.texts.Views.{difference_text}
 use Rattle.feats_diff.specs.texts.inner.Names.{names_text}
-use Rattle.plan_lines.specs.parts.Views.{row_text}
+use Rattle.feats_lines.specs.parts.Views.{row_text}
 use Rattle.feats_diff.proofs.texts.lines.rows_of.Given as goal
 
 abbrev pub invariant-loop-difference : goal.invariant-loop-difference

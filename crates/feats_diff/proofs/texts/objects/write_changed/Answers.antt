@@ -2,8 +2,8 @@ use Rattle.std.proofs.Common.{subst}
 use Rattle.cargo_workspaces.specs.Workspaces.{Text}
 use Rattle.feats_diff.specs.texts.Objects.{head}
 use Rattle.feats_diff.proofs.Tokens.{appended, on_ok}
-use Rattle.plan_lines.specs.parts.Members.{Appends}
-use Rattle.plan_lines.specs.Views.{shown_text}
+use Rattle.feats_lines.specs.parts.Members.{Appends}
+use Rattle.feats_lines.specs.Views.{shown_text}
 use Rattle.feats_diff.proofs.texts.objects.write_changed.Goals as goal
 
 pub returns : goal.returns

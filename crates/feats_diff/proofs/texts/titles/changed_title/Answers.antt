@@ -3,7 +3,7 @@ use Rattle.cargo_workspaces.specs.Views.{package_text}
 use Rattle.feats_diff.specs.texts.Titles.{moved_title}
 use Rattle.feats_diff.specs.texts.inner.Names.{names_text}
 use Rattle.feats_diff.proofs.Tokens.{ok_with}
-use Rattle.plan_lines.specs.Lines.{label_of}
+use Rattle.feats_lines.specs.Lines.{label_of}
 use Rattle.feats_diff.proofs.texts.titles.changed_title.Goals as goal
 
 pub returns-then-is_same : goal.returns-then-is_same

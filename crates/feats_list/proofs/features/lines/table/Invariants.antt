@@ -1,5 +1,5 @@
 use Rattle.std.proofs.Common.{◌≡◌, ◌++◌, map, drop}
-use Rattle.plan_lines.specs.parts.Views.{row_text}
+use Rattle.feats_lines.specs.parts.Views.{row_text}
 use Rattle.feats_list.specs.features.Lines.{row_of}
 use Rattle.feats_list.specs.features.inner.Listed.{listed_text}
 use Rattle.feats_list.proofs.features.lines.table.Given as goal

@@ -1,8 +1,8 @@
 use Rattle.std.proofs.Common.{Option, subst}
 use Rattle.std.specs.Prelude.{codes}
 use Rattle.cargo_workspaces.specs.Workspaces.{Text}
-use Rattle.plan_lines.specs.parts.Members.{Appends, optional_member}
-use Rattle.plan_lines.proofs.Tokens.{appended, on_ok}
+use Rattle.feats_lines.specs.parts.Members.{Appends, optional_member}
+use Rattle.feats_lines.proofs.Tokens.{appended, on_ok}
 use Rattle.feats_list.proofs.features.objects.write_listed.Goals as goal
 
 pub returns : goal.returns

@@ -1,4 +1,4 @@
-use Rattle.plan_lines.proofs.Tokens.{appended, on_ok}
+use Rattle.feats_lines.proofs.Tokens.{appended, on_ok}
 use Rattle.feats_list.proofs.features.objects.write_package.Goals as goal
 
 pub returns : goal.returns

@@ -1,5 +1,5 @@
 use Rattle.std.proofs.Common.{◌≡◌, ◌++◌, map, drop}
-use Rattle.plan_lines.specs.parts.Views.{row_text}
+use Rattle.feats_lines.specs.parts.Views.{row_text}
 use Rattle.feats_list.specs.platforms.Lines.{row_of}
 use Rattle.feats_list.specs.platforms.inner.Listed.{listed_text}
 use Rattle.feats_list.proofs.platforms.lines.table.Given as goal

@@ -3,8 +3,8 @@ use Rattle.std.specs.Prelude.{OnOk, codes}
 use Rattle.std.specs.Borrow.{Bor}
 use Rattle.cargo_workspaces.specs.Views.{texts}
 use Rattle.cargo_workspaces.specs.Workspaces.{Text}
-use Rattle.plan_lines.specs.parts.Members.{Appends, texts_member}
-use Rattle.plan_lines.proofs.Tokens.{appended, on_ok}
+use Rattle.feats_lines.specs.parts.Members.{Appends, texts_member}
+use Rattle.feats_lines.proofs.Tokens.{appended, on_ok}
 use Rattle.feats_list.proofs.platforms.objects.write_members.Goals as goal
 
 pub returns : goal.returns

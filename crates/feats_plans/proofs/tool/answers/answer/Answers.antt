@@ -4,7 +4,7 @@ use Rattle.cargo_workspaces.specs.Workspaces.{Text}
 use Rattle.feats_plans.specs.Inputs.{inputs_text}
 use Rattle.feats_plans.specs.Planning.{AfterPlanning, IsPlanningRefusal}
 use Rattle.feats_plans.proofs.Says.{if_err_more}
-use Rattle.policies.specs.Views.{rule_text}
+use Rattle.feats_policies.specs.Views.{rule_text}
 use Rattle.feats_plans.specs.tool.AnsweredView.{answered_text}
 use Rattle.feats_plans.specs.tool.Answers.{IsNoAnswer, IsPlanAnswer, IsPlanRefusal, of_plan}
 use Rattle.feats_plans.specs.tool.Rules.{AreRules}

@@ -1,6 +1,6 @@
 use Rattle.std.proofs.Common.{subst}
 use Rattle.cargo_workspaces.specs.Workspaces.{Text}
-use Rattle.policies.specs.Policies.{IsPolicyFault}
+use Rattle.feats_policies.specs.Policies.{IsPolicyFault}
 use Rattle.feats_check.specs.texts.Messages.{IsPolicyMessage}
 use Rattle.feats_plans.proofs.Says.{says_more}
 use Rattle.feats_plans.specs.tool.Rules.{IsFileRefusal, malformed}

@@ -1,6 +1,6 @@
 use Rattle.std.proofs.Common.{subst, sym}
 use Rattle.std.specs.Prelude.{OnOk}
-use Rattle.plan_lines.specs.parts.Members.{Appends}
+use Rattle.feats_lines.specs.parts.Members.{Appends}
 use Rattle.feats_slim.specs.answers.Objects.{place_members}
 use Rattle.feats_slim.specs.answers.Views.{shown_place_text}
 use Rattle.feats_slim.specs.declared.answers.shown.ShownPlace.{ShownPlace}

@@ -1,6 +1,6 @@
 use Rattle.std.proofs.Common.{subst, sym}
 use Rattle.std.specs.Prelude.{OnOk}
-use Rattle.plan_lines.specs.parts.Members.{Appends}
+use Rattle.feats_lines.specs.parts.Members.{Appends}
 use Rattle.cargo_manifests.specs.EditViews.{without_text}
 use Rattle.cargo_manifests.specs.declared.edits.Without.{Without}
 use Rattle.feats_slim.specs.answers.Objects.{without_members}

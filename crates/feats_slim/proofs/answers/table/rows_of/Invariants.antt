@@ -1,5 +1,5 @@
 use Rattle.std.proofs.Common.{◌≡◌, ◌++◌, ◌∷◌, map, drop}
-use Rattle.plan_lines.specs.parts.Views.{row_text}
+use Rattle.feats_lines.specs.parts.Views.{row_text}
 use Rattle.feats_slim.specs.answers.Lines.{row_of, titles}
 use Rattle.feats_slim.specs.answers.Views.{shown_text}
 use Rattle.feats_slim.proofs.answers.table.rows_of.Given as goal

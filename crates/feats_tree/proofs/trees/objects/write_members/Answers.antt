@@ -1,6 +1,6 @@
 use Rattle.std.proofs.Common.{subst}
 use Rattle.std.specs.Prelude.{codes}
-use Rattle.plan_lines.specs.parts.Members.{Appends, text_member}
+use Rattle.feats_lines.specs.parts.Members.{Appends, text_member}
 use Rattle.feats_tree.specs.trees.Titles.{Text}
 use Rattle.feats_tree.proofs.Tokens.{appended, on_ok}
 use Rattle.feats_tree.proofs.trees.objects.write_members.Goals as goal

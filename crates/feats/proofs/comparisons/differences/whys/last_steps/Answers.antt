@@ -3,7 +3,7 @@ use Rattle.std.specs.String.{string_bytes}
 use Rattle.feats.specs.comparisons.differences.Views.{build_text}
 use Rattle.feats.proofs.WhyLists.{last_lines, ok_with}
 use Rattle.plan_whys.specs.StepViews.{found_text}
-use Rattle.why_lines.specs.Views.{steps_text}
+use Rattle.feats_why.specs.Views.{steps_text}
 use Rattle.feats.proofs.comparisons.differences.whys.last_steps.Goals as goal
 
 pub returns : goal.returns

@@ -1,9 +1,0 @@
-use Rattle.std.proofs.Common.{◌≡◌, ◌++◌, flat_map, drop}
-use Rattle.std.specs.String.{string_bytes}
-use Rattle.cargo_workspaces.specs.Views.{texts}
-use Rattle.plan_lines.specs.Lines.{spaced}
-use Rattle.duplicate_lines.proofs.manifest_lines.push_spaced.Given as goal
-
-abbrev pub invariant-loop-feature : goal.invariant-loop-feature
-invariant-loop-feature l =
-    string_bytes l.initial.text ++ flat_map spaced (texts l.features) ≡ string_bytes l.text ++ flat_map spaced (texts (drop l.feature-index l.features))

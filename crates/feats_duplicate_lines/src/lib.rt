@@ -1,0 +1,20 @@
+//! The duplicates of a plan, as lines in columns or as JSON objects.
+#![tactic(auto)]
+
+mod alone;
+mod gathered;
+mod listed;
+mod manifest_lines;
+mod objects;
+mod place_names;
+mod rows;
+mod shown;
+mod table;
+
+pub use gathered::all_shown;
+pub use objects::duplicate_objects;
+pub use feats_duplicates::{
+    Disagreement, Duplicates, MemberPlan, disagreements_of, duplicates_of, plans_alone,
+};
+pub use shown::Shown;
+pub use table::duplicate_lines;

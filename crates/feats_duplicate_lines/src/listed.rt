@@ -1,0 +1,148 @@
+//! The lines about versions and places, and about members without a plan.
+ghost use Rattle.std.specs.Prelude.{◌≡◌, ◌++◌, OnOk, map, flat_map};
+ghost use Rattle.cargo_workspaces.specs.Views.{package_text, texts};
+ghost use Rattle.feats_duplicates.specs.Views.{member_plan_text, outcome_text, placed_text, places_text, versions_text};
+ghost use Rattle.feats_duplicate_lines.specs.Shown as spec;
+ghost use Rattle.feats_duplicate_lines.specs.Views.{shown_text};
+
+use crate::place_names::place_name;
+use crate::shown::{Shown, package_at, push_shown};
+use cargo_workspaces::Package;
+use feats_duplicates::{MemberPlan, Outcome, PlaceFeatures, Places, Versions};
+use std::alloc::AllocError;
+
+/// Appends the line of package `number`, which is one of several with its name.
+fn push_version<'u, 'v, 'w>(
+    shown: &mut Vec<Shown<'u, 'v, 'w>>,
+    packages: &'u [Package<'v>],
+    number: usize,
+) -> Result<(), AllocError>
+    ensures { OnOk result (map shown_text shown.new.items ≡ map shown_text shown.old.items ++ spec.version_at (map package_text packages.now) number) }
+{
+    match package_at(packages, number) {
+        Some(package) => push_shown(shown, Shown::Version { package }),
+        None => Ok(()),
+    }
+}
+
+/// Appends the lines of packages with these numbers.
+fn push_numbers<'u, 'v, 'w>(
+    shown: &mut Vec<Shown<'u, 'v, 'w>>,
+    packages: &'u [Package<'v>],
+    numbers: &[usize],
+) -> Result<(), AllocError>
+    ensures { OnOk result (map shown_text shown.new.items ≡ map shown_text shown.old.items ++ flat_map (spec.version_at (map package_text packages.now)) numbers.now) }
+{
+    for number in numbers {
+        push_version(shown, packages, *number)?;
+    }
+    Ok(())
+}
+
+/// Appends the lines of `versions`.
+pub(crate) fn push_versions<'u, 'v, 'w>(
+    shown: &mut Vec<Shown<'u, 'v, 'w>>,
+    packages: &'u [Package<'v>],
+    versions: &[Versions<'_>],
+) -> Result<(), AllocError>
+    ensures { OnOk result (map shown_text shown.new.items ≡ map shown_text shown.old.items ++ flat_map (spec.versions_of (map package_text packages.now)) (map versions_text versions.now)) }
+{
+    for one in versions {
+        push_numbers(shown, packages, &one.packages)?;
+    }
+    Ok(())
+}
+
+/// Appends the line of `package` in each of `places`.
+fn push_each<'u, 'v, 'w>(
+    shown: &mut Vec<Shown<'u, 'v, 'w>>,
+    names: &[&'u str],
+    package: &'u Package<'v>,
+    places: &[PlaceFeatures<'u, 'w>],
+) -> Result<(), AllocError>
+    ensures { OnOk result (map shown_text shown.new.items ≡ map shown_text shown.old.items ++ map (spec.placed_as (texts names.now) (package_text «package».now)) (map placed_text places.now)) }
+{
+    for one in places {
+        shown.push(Shown::InPlace {
+            package,
+            place: place_name(names, one.place),
+            features: one.features,
+        })?;
+    }
+    Ok(())
+}
+
+/// Appends the lines of package `number`, in each of `places`.
+fn push_package<'u, 'v, 'w>(
+    shown: &mut Vec<Shown<'u, 'v, 'w>>,
+    names: &[&'u str],
+    packages: &'u [Package<'v>],
+    number: usize,
+    places: &[PlaceFeatures<'u, 'w>],
+) -> Result<(), AllocError>
+    ensures { OnOk result (map shown_text shown.new.items ≡ map shown_text shown.old.items ++ spec.places_at (texts names.now) (map package_text packages.now) number (map placed_text places.now)) }
+{
+    match package_at(packages, number) {
+        Some(package) => push_each(shown, names, package, places),
+        None => Ok(()),
+    }
+}
+
+/// Appends the lines of `places`.
+pub(crate) fn push_places<'u, 'v, 'w>(
+    shown: &mut Vec<Shown<'u, 'v, 'w>>,
+    names: &[&'u str],
+    packages: &'u [Package<'v>],
+    places: &[Places<'u, 'w>],
+) -> Result<(), AllocError>
+    ensures { OnOk result (map shown_text shown.new.items ≡ map shown_text shown.old.items ++ flat_map (spec.places_of (texts names.now) (map package_text packages.now)) (map places_text places.now)) }
+{
+    for one in places {
+        push_package(shown, names, packages, one.package, &one.places)?;
+    }
+    Ok(())
+}
+
+/// Appends the line of member `number`, which has no plan, with the message why.
+fn push_refusal<'u, 'v, 'w>(
+    shown: &mut Vec<Shown<'u, 'v, 'w>>,
+    packages: &'u [Package<'v>],
+    number: usize,
+    message: &'u str,
+) -> Result<(), AllocError>
+    ensures { OnOk result (map shown_text shown.new.items ≡ map shown_text shown.old.items ++ spec.refused_at (map package_text packages.now) number message.now) }
+{
+    match package_at(packages, number) {
+        Some(member) => push_shown(shown, Shown::NotPlanned { member, message }),
+        None => Ok(()),
+    }
+}
+
+/// Appends the line of member `number`, if `outcome` says that it has no plan.
+fn push_outcome<'u, 'v, 'w>(
+    shown: &mut Vec<Shown<'u, 'v, 'w>>,
+    packages: &'u [Package<'v>],
+    number: usize,
+    outcome: &'u Outcome<'_>,
+) -> Result<(), AllocError>
+    ensures { OnOk result (map shown_text shown.new.items ≡ map shown_text shown.old.items ++ spec.refusal_at (map package_text packages.now) number (outcome_text outcome.now)) }
+{
+    match outcome {
+        Outcome::Built(_) => Ok(()),
+        Outcome::NotPlanned(message) => push_refusal(shown, packages, number, message.as_str()),
+    }
+}
+
+/// Appends the lines of those of `plans` that aren't plans.
+pub(crate) fn push_refusals<'u, 'v, 'w>(
+    shown: &mut Vec<Shown<'u, 'v, 'w>>,
+    packages: &'u [Package<'v>],
+    plans: &'u [MemberPlan<'_>],
+) -> Result<(), AllocError>
+    ensures { OnOk result (map shown_text shown.new.items ≡ map shown_text shown.old.items ++ flat_map (spec.refusal_of (map package_text packages.now)) (map member_plan_text plans.now)) }
+{
+    for plan in plans {
+        push_outcome(shown, packages, plan.member, &plan.outcome)?;
+    }
+    Ok(())
+}

@@ -1,0 +1,7 @@
+use Rattle.std.proofs.Common.{◌≡◌, max, map, drop}
+use Rattle.feats_lines.specs.parts.Tables.{second_width}
+use Rattle.feats_lines.specs.parts.Views.{row_text}
+use Rattle.feats_lines.proofs.parts.table.second_width.Given as goal
+
+abbrev pub invariant-loop-row : goal.invariant-loop-row
+invariant-loop-row l = second_width (map row_text l.rows) ≡ max l.width (second_width (map row_text (drop l.row-index l.rows)))

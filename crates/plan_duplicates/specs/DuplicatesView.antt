@@ -1,8 +1,0 @@
--- The value that duplicates contain.
-use Rattle.std.specs.Prelude.{map}
-use Rattle.plan_duplicates.specs.Duplicates.{DuplicatesText}
-use Rattle.plan_duplicates.specs.Views.{alone_text, places_text, versions_text}
-use Rattle.plan_duplicates.specs.declared.duplicates.Duplicates.{Duplicates}
-
-abbrev pub duplicates_text : Duplicates → DuplicatesText
-duplicates_text d = record { versions = map versions_text d.versions.items; places = map places_text d.places.items; alone = map alone_text d.alone.items }

@@ -1,8 +1,0 @@
-use Rattle.std.proofs.Common.{[], ◌∷◌}
-use Rattle.json.specs.Token.{begin_object}
-use Rattle.why_lines.proofs.Tokens.{appended, on_ok, wrote}
-use Rattle.why_lines.proofs.reason_objects.write_reason_object.Goals as goal
-
-pub returns : goal.returns
-returns g c = on_ok c.end_object.result (wrote _ _ _ _ c.end_object.ensures) (λ last.
-    appended _ _ _ (begin_object ∷ []) _ (wrote _ _ _ _ c.in_ok-begin_object.ensures) (appended _ _ _ _ _ c.in_ok-write_reason_members.ensures last))

@@ -1,5 +1,0 @@
-use Rattle.why_nots.proofs.Tokens.{appended, on_ok}
-use Rattle.why_nots.proofs.objects.write_unbuilt.Goals as goal
-
-pub returns : goal.returns
-returns c = on_ok c.write_member.result c.write_member.ensures (λ last. appended _ _ _ _ _ c.in_ok-write_flag.ensures last)
