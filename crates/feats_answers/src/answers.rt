@@ -39,10 +39,10 @@ use crate::why_texts::{WhyQuestion, why_answer_of};
 use cargo_plans::{Plan, PlanWords};
 use cargo_workspaces::Workspace;
 use feats_files::{Fault, PlatformFile};
+use feats_why_not::why_not_texts;
 use feats_words::{Format, Question};
 use plan_rows::platforms::{DeclaredSpec, HeldSpecs, every_spec};
 use std::alloc::{AllocError, Global};
-use feats_why_not::why_not_texts;
 
 /// Returns the answer to `plan`.
 fn plan_answer(

@@ -1,8 +1,8 @@
 //! Questions about a build.
 
 use feats_files::PlatformFile;
-use feats_words::CommandArguments;
 use feats_policies::Rule;
+use feats_words::CommandArguments;
 
 /// A question about a build: the arguments, the rules of a policy, the files of platforms and the manifests of members.
 #[derive(Clone, Copy)]

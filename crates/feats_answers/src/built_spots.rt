@@ -11,11 +11,11 @@ ghost use Rattle.feats_answers.specs.BuiltSpots as spec;
 use cargo_plans::PlanWords;
 use cargo_plans::built_parts::{BuiltParts, LackingScripts, PartState};
 use cargo_workspaces::Workspace;
+use feats_why::{UnbuiltSpot, unbuilt_lines};
 use feats_words::Format;
 use plan_rows::platforms::HeldSpecs;
 use plan_whys::Spot;
 use std::alloc::{AllocError, Global};
-use feats_why::{UnbuiltSpot, unbuilt_lines};
 
 /// Returns those of `spots` whose state is `wanted`.
 pub(crate) fn those_in<'w>(

@@ -9,9 +9,9 @@ ghost use Rattle.feats_answers.specs.WhyNotTexts as spec;
 use crate::parts::label_of;
 use cargo_plans::built_parts::BuiltParts;
 use cargo_plans::{Plan, Side};
+use feats_why_not::OffPart;
 use plan_names::Named;
 use std::alloc::{AllocError, Global};
-use feats_why_not::OffPart;
 
 /// Returns whether `named` is built on no side, in the plan whose built parts are `built`.
 fn is_part_off(built: &BuiltParts<'_>, named: Named<'_>) -> bool

@@ -15,13 +15,13 @@ use crate::name_messages::name_refused;
 use cargo_plans::{PlanWords, Side};
 use cargo_workspaces::Workspace;
 use feats_files::Fault;
+use feats_why::spot_label;
 use feature_labels::FeatureLabel;
 use plan_names::{Named, Part, parts_named};
 use plan_rows::platforms::HeldSpecs;
 use plan_whys::Spot;
 use plan_words::choose;
 use std::alloc::{AllocError, Global};
-use feats_why::spot_label;
 
 /// Returns the label of `part`.
 pub(crate) fn label_of(part: Part<'_>) -> FeatureLabel<'_>

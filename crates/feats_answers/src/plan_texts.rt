@@ -10,8 +10,8 @@ ghost use Rattle.feats_answers.specs.PlanTexts as spec;
 use cargo_plans::{Place, Unit};
 use cargo_workspaces::Workspace;
 use feats_files::PlatformFile;
-use feats_words::Format;
 use feats_lines::{Shown, lines_of, objects_of};
+use feats_words::Format;
 use std::alloc::{AllocError, Global};
 
 /// Returns the triples of `files`.

@@ -23,12 +23,12 @@ use crate::parts::spot_on;
 use cargo_plans::built_parts::{BuiltParts, PartState};
 use cargo_plans::{Plan, PlanWords, Side};
 use cargo_workspaces::Workspace;
+use feats_why::{WhySettings, reasoned_lines, reasoned_objects, why_lines, why_objects};
 use feats_words::Format;
 use plan_names::Named;
 use plan_rows::platforms::HeldSpecs;
 use plan_whys::{ReasonedStep, Spot, WhyStep, reasoned_steps, why_each};
 use std::alloc::{AllocError, Global};
-use feats_why::{WhySettings, reasoned_lines, reasoned_objects, why_lines, why_objects};
 
 /// Returns the settings of the steps' lines.
 fn why_settings<'n, 's>(words: &PlanWords<'_, 'n, HeldSpecs<'s>>) -> WhySettings<'n, HeldSpecs<'s>>

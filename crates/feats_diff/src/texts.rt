@@ -7,7 +7,7 @@ mod rows;
 mod shown;
 mod titles;
 
+pub use feats_lines::Shown;
 pub use lines::difference_lines;
 pub use objects::difference_objects;
-pub use feats_lines::Shown;
 pub use shown::{Difference, Turned};

@@ -11,10 +11,10 @@ mod rows;
 mod shown;
 mod table;
 
-pub use gathered::all_shown;
-pub use objects::duplicate_objects;
 pub use feats_duplicates::{
     Disagreement, Duplicates, MemberPlan, disagreements_of, duplicates_of, plans_alone,
 };
+pub use gathered::all_shown;
+pub use objects::duplicate_objects;
 pub use shown::Shown;
 pub use table::duplicate_lines;

@@ -9,8 +9,8 @@ use crate::manifest_lines::manifest_line;
 use crate::rows::{kind_of, package_of};
 use crate::shown::Shown;
 use cargo_workspaces::Package;
-use json::Writer;
 use feats_lines::parts::{begin_line, end_line, write_flag, write_member, write_texts};
+use json::Writer;
 use std::alloc::{AllocError, Global};
 
 /// Writes the kind of a line, and the id, the name and the version of its package.

@@ -10,8 +10,8 @@ ghost use Rattle.plan_whys.specs.StepViews.{spot_text};
 ghost use Rattle.feats_why.specs.inner.Labelled.{AreLabels, packages_of};
 
 use cargo_workspaces::{Package, Workspace};
-use feature_labels::FeatureLabel;
 use feats_lines::{label_of, names_of, repeated_in, repeated_names};
+use feature_labels::FeatureLabel;
 use plan_rows::Side;
 use plan_whys::Spot;
 use std::alloc::{AllocError, Global};

@@ -7,8 +7,8 @@ ghost use Rattle.feats_why.specs.inner.Labelled.{AreLabels, packages_of};
 
 use crate::labels::{Labels, labels_of, push_spot};
 use cargo_workspaces::Workspace;
-use feature_labels::FeatureLabel;
 use feats_lines::names_of;
+use feature_labels::FeatureLabel;
 use plan_rows::Side;
 use plan_whys::Spot;
 use std::alloc::{AllocError, Global};

@@ -16,9 +16,9 @@ use crate::standings::{Standing, standing_of};
 use cargo_plans::built_parts::{BuiltParts, LackingScripts};
 use cargo_plans::{Plan, PlanWords};
 use cargo_workspaces::Workspace;
+use feats_why::{UnbuiltSpot, unbuilt_message};
 use plan_rows::platforms::HeldSpecs;
 use std::alloc::{AllocError, Global};
-use feats_why::{UnbuiltSpot, unbuilt_message};
 
 /// What a plan builds, and the build scripts that packages lack there.
 #[derive(Drop)]

@@ -9,9 +9,9 @@ ghost use Rattle.feats_why_not.specs.PartView.{part_text};
 
 use crate::parts::OffPart;
 use cargo_workspaces::Workspace;
+use feats_lines::parts::{write_member, write_optional};
 use feature_labels::FeatureLabel;
 use json::Writer;
-use feats_lines::parts::{write_member, write_optional};
 use plan_names::wider::widenings::Widening;
 use std::alloc::AllocError;
 

@@ -20,13 +20,13 @@ use crate::told::Told;
 use crate::typed_words::{TypedWords, typed_text};
 use cargo_plans::PlanWords;
 use cargo_workspaces::Workspace;
-use json::Writer;
 use feats_lines::parts::{begin_line, end_line, write_flag, write_member, write_optional};
+use feats_why::write_steps;
+use json::Writer;
 use plan_names::wider::widenings::Widening;
 use plan_rows::platforms::HeldSpecs;
 use plan_whys::WhyStep;
 use std::alloc::{AllocError, Global};
-use feats_why::write_steps;
 
 /// Writes the objects of `steps`.
 fn write_objects(

@@ -7,11 +7,11 @@ ghost use Rattle.feats_why_not.specs.PartView.{part_text};
 ghost use Rattle.feats_why_not.specs.Parts as spec;
 
 use cargo_workspaces::Workspace;
+use feats_why::spot_labels;
 use feature_labels::FeatureLabel;
 use plan_rows::Side;
 use plan_whys::Spot;
 use std::alloc::{AllocError, Global};
-use feats_why::spot_labels;
 
 /// A label of a package that is off.
 #[derive(Clone, Copy)]

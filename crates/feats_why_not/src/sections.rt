@@ -18,6 +18,7 @@ use crate::told::Told;
 use crate::typed_words::{TypedWords, typed_text};
 use cargo_plans::PlanWords;
 use cargo_workspaces::Workspace;
+use feats_why::why_lines;
 use feats_words::Format;
 use plan_names::wider::texts::{Said, push_widening};
 use plan_names::wider::widenings::Widening;
@@ -25,7 +26,6 @@ use plan_rows::platforms::HeldSpecs;
 use plan_whys::WhyStep;
 use shown_texts::escaped;
 use std::alloc::{AllocError, Global};
-use feats_why::why_lines;
 
 /// Returns the lines about `widening`, which say `said`.
 fn lines_by(alloc: Global, widening: Widening, said: Said<'_>) -> Result<Vec<u8>, AllocError>

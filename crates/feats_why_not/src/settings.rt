@@ -6,8 +6,8 @@ ghost use Rattle.feats_why.specs.Settings.{settings_text};
 ghost use Rattle.feats_why_not.specs.Lines as spec;
 
 use cargo_plans::PlanWords;
-use plan_rows::platforms::HeldSpecs;
 use feats_why::WhySettings;
+use plan_rows::platforms::HeldSpecs;
 
 /// Returns the settings of the lines that explain a plan for `words`.
 pub(crate) fn settings_of<'n, 's>(

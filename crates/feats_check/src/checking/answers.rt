@@ -20,9 +20,9 @@ use crate::checking::rules::printed_rules;
 use cargo_plans::{Plan, PlanWords};
 use cargo_workspaces::Workspace;
 use feats_files::Fault;
+use feats_policies::checks::Judged;
 use plan_rows::platforms::HeldSpecs;
 use plan_words::choose;
-use feats_policies::checks::Judged;
 use std::alloc::Global;
 
 /// Returns the answer for every choice, by the plans of the wider `words`.

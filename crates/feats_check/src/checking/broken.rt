@@ -18,10 +18,10 @@ use crate::checking::objects::rule_object;
 use crate::checking::planned::Planned;
 use crate::checking::question::PolicyQuestion;
 use cargo_workspaces::Workspace;
-use feats_words::Format;
-use plan_whys::{WhyStep, why_each};
 use feats_policies::Rule;
 use feats_policies::checks::Verdict;
+use feats_words::Format;
+use plan_whys::{WhyStep, why_each};
 use std::alloc::{AllocError, Global};
 
 /// Returns the text of the rule `rule`, which the plan of `planned` breaks, with `founds`, which explain what breaks it.

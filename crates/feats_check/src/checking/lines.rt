@@ -13,11 +13,11 @@ use crate::checking::settings::settings_of;
 use crate::texts::push_verdict;
 use cargo_plans::PlanWords;
 use cargo_workspaces::Workspace;
+use feats_policies::Rule;
+use feats_why::why_lines;
 use plan_rows::platforms::HeldSpecs;
 use plan_whys::WhyStep;
-use feats_policies::Rule;
 use std::alloc::{AllocError, Global};
-use feats_why::why_lines;
 
 /// Appends the lines of `steps`, by which a spot is on.
 fn push_steps(

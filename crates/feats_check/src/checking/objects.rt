@@ -15,13 +15,13 @@ use crate::checking::settings::settings_of;
 use crate::texts::write_rule;
 use cargo_plans::PlanWords;
 use cargo_workspaces::Workspace;
-use json::Writer;
 use feats_lines::parts::{begin_line, end_line};
+use feats_policies::Rule;
+use feats_why::write_steps;
+use json::Writer;
 use plan_rows::platforms::HeldSpecs;
 use plan_whys::WhyStep;
-use feats_policies::Rule;
 use std::alloc::{AllocError, Global};
-use feats_why::write_steps;
 
 /// Writes the objects of `steps`.
 fn write_objects(

@@ -14,9 +14,9 @@ use cargo_plans::{Plan, PlanFault, PlanWords, StepFault, plan};
 use cargo_workspaces::Workspace;
 use feats_files::Fault;
 use feats_files::plan_messages::plan_refused;
+use feats_policies::checks::Judged;
 use plan_names::wider::widenings::{Widening, widened};
 use plan_rows::platforms::HeldSpecs;
-use feats_policies::checks::Judged;
 use std::alloc::Global;
 
 /// A plan, its words, and the build that it is of.

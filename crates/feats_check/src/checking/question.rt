@@ -1,8 +1,8 @@
 //! Questions about policies, and their answers.
 
+use feats_policies::Rule;
 use feats_words::Format;
 use plan_rows::platforms::HeldSpecs;
-use feats_policies::Rule;
 
 /// A question about a policy, and the format of its answer.
 #[derive(Clone, Copy)]

@@ -6,8 +6,8 @@ ghost use Rattle.feats_check.specs.checking.Whys as spec;
 ghost use Rattle.feats_why.specs.Settings.{settings_text};
 
 use cargo_plans::PlanWords;
-use plan_rows::platforms::HeldSpecs;
 use feats_why::WhySettings;
+use plan_rows::platforms::HeldSpecs;
 
 /// Returns the settings of the lines that explain a plan for `words`.
 pub(crate) fn settings_of<'n, 's>(

@@ -15,10 +15,10 @@ use crate::texts::{build_message, unmatched_message, unmatched_refused};
 use cargo_plans::PlanWords;
 use cargo_workspaces::Workspace;
 use feats_files::Fault;
-use plan_rows::platforms::HeldSpecs;
-use plan_words::choose;
 use feats_policies::checks::unmatched;
 use feats_policies::{Rule, RuleKind};
+use plan_rows::platforms::HeldSpecs;
+use plan_words::choose;
 use std::alloc::{AllocError, Global};
 
 /// The policy that is checked.

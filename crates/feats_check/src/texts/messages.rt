@@ -12,9 +12,9 @@ ghost use Rattle.feats_check.specs.texts.Messages as spec;
 use crate::texts::words::digits_of;
 use cargo_workspaces::Workspace;
 use feats_files::{Fault, id_at, push_escaped};
-use plan_names::{Named, Part};
 use feats_policies::checks::{Build, CheckFault};
 use feats_policies::{PolicyFault, Problem};
+use plan_names::{Named, Part};
 use shown_texts::escaped;
 use std::alloc::{AllocError, Global};
 

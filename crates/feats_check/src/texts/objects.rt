@@ -4,10 +4,10 @@ ghost use Rattle.feats_lines.specs.parts.Members.{Appends};
 ghost use Rattle.feats_policies.specs.Views.{kind_text, rule_text};
 ghost use Rattle.feats_check.specs.texts.Objects as spec;
 
-use json::Writer;
 use feats_lines::parts::{begin_line, end_line, write_member, write_number, write_optional};
 use feats_policies::checks::Judged;
 use feats_policies::{Rule, RuleKind};
+use json::Writer;
 use std::alloc::AllocError;
 
 /// Writes the members of a rule that begins with `verb`, about `word` and for the platform `on`.

@@ -9,9 +9,9 @@ ghost use Rattle.feats_lines.specs.Views.{shown_text};
 use crate::texts::shown::{Difference, Turned};
 use crate::texts::titles::is_same;
 use cargo_workspaces::Package;
-use json::Writer;
 use feats_lines::Shown;
 use feats_lines::parts::{begin_line, end_line, write_member, write_texts};
+use json::Writer;
 use std::alloc::{AllocError, Global};
 
 /// Writes the kind of the difference, and the place and the package of `shown`.

@@ -10,8 +10,8 @@ ghost use Rattle.feats_lines.specs.parts.Views.{row_text};
 use crate::features::listed::{Listed, has_two_sides, listed_package};
 use cargo_plans::built_parts::BuiltParts;
 use cargo_workspaces::Package;
-use feature_labels::FeatureLabel;
 use feats_lines::parts::{Row, table_of};
+use feature_labels::FeatureLabel;
 use std::alloc::{AllocError, Global};
 
 /// Returns the text of `label`.

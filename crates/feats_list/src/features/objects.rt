@@ -10,11 +10,11 @@ ghost use Rattle.feats_lines.specs.parts.Members.{Appends};
 use crate::features::listed::{Listed, listed_package};
 use cargo_plans::built_parts::BuiltParts;
 use cargo_workspaces::Package;
-use feature_labels::FeatureLabel;
-use json::Writer;
 use feats_lines::parts::{
     begin_line, end_line, write_flag, write_member, write_optional, write_texts,
 };
+use feature_labels::FeatureLabel;
+use json::Writer;
 use std::alloc::{AllocError, Global};
 
 /// Returns the name of a feature.

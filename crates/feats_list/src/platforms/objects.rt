@@ -9,8 +9,8 @@ ghost use Rattle.feats_list.specs.platforms.inner.Listed.{listed_text};
 
 use crate::platforms::listed::{Listed, listed_specs};
 use crate::platforms::places::NamedPlatform;
-use json::Writer;
 use feats_lines::parts::{begin_line, end_line, write_member, write_number, write_texts};
+use json::Writer;
 use plan_rows::Platform;
 use plan_rows::platforms::DeclaredSpec;
 use std::alloc::{AllocError, Global};

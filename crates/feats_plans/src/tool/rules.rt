@@ -8,8 +8,8 @@ ghost use Rattle.feats_policies.specs.Views.{rule_text};
 
 use feats_check::texts::policy_refused;
 use feats_files::{Fault, refused};
-use feats_words::Question;
 use feats_policies::{PolicyFault, Rule, parse};
+use feats_words::Question;
 use std::alloc::Global;
 use std::str;
 

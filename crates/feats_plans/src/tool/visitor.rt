@@ -18,8 +18,8 @@ use crate::{PlanVisitor, Planned};
 use feats_answers::{Answer, Asked, answer_to};
 use feats_check::checking::{PolicyWords, policy_warnings};
 use feats_files::Fault;
-use feats_words::Question;
 use feats_policies::Rule;
+use feats_words::Question;
 use std::alloc::Global;
 
 /// Returns the warnings about `rules`, those of the policy; none, if the arguments name no policy.

@@ -10,8 +10,8 @@ ghost use Rattle.feats_slim.specs.answers.Views.{shown_place_text, shown_text};
 use crate::answers::shown::{Shown, ShownPlace, all_shown};
 use crate::edits::{Slim, Without};
 use cargo_workspaces::{Declaration, Kind, Package};
-use json::Writer;
 use feats_lines::parts::{begin_line, end_line, write_member, write_number, write_optional};
+use json::Writer;
 use std::alloc::{AllocError, Global};
 
 /// Returns the word for a declaration of kind `kind`.

@@ -11,9 +11,9 @@ use crate::features::commands::is_command;
 use crate::features::links::shown_links;
 use cargo_plans::plan_steps::Plan;
 use cargo_workspaces::Workspace;
+use feats_why::spot_labels;
 use plan_whys::links::{Side, Spot, on_spots, spot_links};
 use std::alloc::{AllocError, Global};
-use feats_why::spot_labels;
 
 /// Returns the number of the cluster of `spot`: the target side, the host side, or none of them for a command feature.
 fn cluster_of(spot: Spot<'_>) -> usize

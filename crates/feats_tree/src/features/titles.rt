@@ -9,10 +9,10 @@ ghost use Rattle.feats_tree.specs.features.Titles as spec;
 
 use crate::packages::{id_at, titled_text};
 use cargo_workspaces::{Package, Workspace};
+use feats_why::spot_labels;
 use feats_words::Format;
 use plan_whys::links::Spot;
 use std::alloc::{AllocError, Global};
-use feats_why::spot_labels;
 
 /// Returns the id of the package of each of `spots`.
 fn ids_of<'p>(

@@ -6,8 +6,8 @@ ghost use Rattle.feats_tree.specs.trees.Titles.{title_text};
 
 use crate::trees::titles::{Title, id_of, title_of};
 use crate::trees::trees::Branch;
-use json::Writer;
 use feats_lines::parts::{begin_line, end_line, write_flag, write_member, write_number};
+use json::Writer;
 use std::alloc::{AllocError, Global};
 
 /// Writes the members of `branch`.

@@ -14,11 +14,11 @@ ghost use Rattle.feats_why.specs.Views.{steps_text};
 use crate::comparisons::differences::builds::Build;
 use cargo_plans::{Place, Side};
 use feats_diff::changes::{Change, Differences, Part};
+use feats_why::{WhySettings, each_why_lines};
 use feature_labels::FeatureLabel;
 use plan_rows::platforms::HeldSpecs;
 use plan_whys::{Spot, WhyStep, why_each};
 use std::alloc::{AllocError, Global};
-use feats_why::{WhySettings, each_why_lines};
 
 /// The last steps of each `why`.
 #[derive(Drop)]
