@@ -17,7 +17,7 @@ use Rattle.plan_whys.specs.declared.steps.Spot.{Spot}
 use Rattle.plan_whys.specs.declared.steps.WhyStep.{WhyStep}
 use Rattle.feats_why.specs.Lines.{why_lines}
 use Rattle.feats_why.specs.Settings.{SettingsText}
-use Rattle.feats_answers.specs.WhyTexts.{why_settings}
+use Rattle.feats_why.specs.Settings.{settings_of}
 use mathlib.Core.List.{map-map}
 
 pub whys_from : (b : BuildText) (spots : List Spot) (founds read : List (Option (Vec WhyStep))) (whys : List Text) → read ≡ founds → AnswersEachBy b.workspace b.words b.plan.on spots founds
@@ -54,10 +54,10 @@ last_texts steps = sym (ap (λ n. drop (n - 1) (map why_text steps)) (length-map
 
 -- the lines of the last steps, from those of lists of one step
 pub last_lines : (b : BuildText) (s : SettingsText) (founds : List (Option (List WhyText))) (lasts : List (List WhyText)) (lines whys : List Text)
-    → s ≡ why_settings b.words → lasts ≡ map last_of founds → lines ≡ map (why_lines b.workspace.packages s) lasts → whys ≡ map without_feed lines
+    → s ≡ settings_of b.words → lasts ≡ map last_of founds → lines ≡ map (why_lines b.workspace.packages s) lasts → whys ≡ map without_feed lines
     → whys ≡ map (last_found b) founds
 last_lines b s founds lasts lines whys same are lined shown =
-    let line : List WhyText → Text = why_lines b.workspace.packages (why_settings b.words) in
+    let line : List WhyText → Text = why_lines b.workspace.packages (settings_of b.words) in
     shown
     ∙ ap (map without_feed) (lined ∙ ap (λ z. map (why_lines b.workspace.packages z) lasts) same ∙ ap (map line) are ∙ map-map line last_of founds)
     ∙ map-map without_feed (λ f. line (last_of f)) founds

@@ -14,7 +14,7 @@ use Rattle.feats_why.specs.Lines.{why_lines}
 use Rattle.feats_why.specs.Objects.{why_objects}
 use Rattle.feats_why.specs.ReasonedLines.{reasoned_lines}
 use Rattle.feats_why.specs.ReasonedObjects.{reasoned_objects}
-use Rattle.feats_why.specs.Settings.{SettingsText}
+use Rattle.feats_why.specs.Settings.{settings_of}
 use Rattle.feats_words.specs.declared.command_arguments.Format.{Format}
 use Rattle.feats_words.specs.declared.command_arguments.Format.TheVariants as format
 use Rattle.feats_answers.specs.AnswerTexts.{AnswerText}
@@ -22,19 +22,15 @@ use Rattle.feats_answers.specs.BuiltSpots.{spots_in, unbuilt_text_of}
 use Rattle.feats_answers.specs.Gathered.{AreShown, gathered}
 use Rattle.feats_answers.specs.Parts.{ArePartsOf, spot_on}
 
--- The settings of the steps' lines. The side is shown, if the resolver tells sides apart.
-abbrev pub why_settings : WordsText → SettingsText
-why_settings words = record { split = words.selection.split; test = words.test; host = words.host; targets = words.targets; sides = words.selection.split }
-
 -- The text of the steps of an explanation.
 abbrev pub steps_text : Format → List PackageText → WordsText → List WhyText → Text
-steps_text format.Text packages words steps = why_lines packages (why_settings words) steps
-steps_text format.Json packages words steps = why_objects packages (why_settings words) steps
+steps_text format.Text packages words steps = why_lines packages (settings_of words) steps
+steps_text format.Json packages words steps = why_objects packages (settings_of words) steps
 
 -- The same with every direct reason of each step.
 abbrev pub reasoned_text : Format → List PackageText → WordsText → List ReasonedText → Text
-reasoned_text format.Text packages words steps = reasoned_lines packages (why_settings words) steps
-reasoned_text format.Json packages words steps = reasoned_objects packages (why_settings words) steps
+reasoned_text format.Text packages words steps = reasoned_lines packages (settings_of words) steps
+reasoned_text format.Json packages words steps = reasoned_objects packages (settings_of words) steps
 
 -- The text with every direct reason in the plan.
 pub record IsReasonedText (form : Format) (packages : List PackageText) (words : WordsText) (plan : PlanText) (steps : List WhyText) (text : Text) : Type 0 where

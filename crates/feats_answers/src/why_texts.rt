@@ -10,7 +10,6 @@ ghost use Rattle.plan_names.specs.Views.{named_text};
 ghost use Rattle.plan_rows.specs.platforms.HeldSpecs.{holds_on};
 ghost use Rattle.cargo_plans.specs.plan_steps.PlanViews.{plan_text};
 ghost use Rattle.plan_whys.specs.StepViews.{found_text, reasoned_text as reasoned_view, spot_text, why_text};
-ghost use Rattle.feats_why.specs.Settings.{settings_text};
 ghost use Rattle.feats_answers.specs.AnswerViews.{answer_text, texts_of};
 ghost use Rattle.feats_answers.specs.BuiltSpots.{spots_in};
 ghost use Rattle.feats_answers.specs.Gathered.{AreShown};
@@ -23,25 +22,12 @@ use crate::parts::spot_on;
 use cargo_plans::built_parts::{BuiltParts, PartState};
 use cargo_plans::{Plan, PlanWords, Side};
 use cargo_workspaces::Workspace;
-use feats_why::{WhySettings, reasoned_lines, reasoned_objects, why_lines, why_objects};
+use feats_why::{reasoned_lines, reasoned_objects, settings_of, why_lines, why_objects};
 use feats_words::Format;
 use plan_names::Named;
 use plan_rows::platforms::HeldSpecs;
 use plan_whys::{ReasonedStep, Spot, WhyStep, reasoned_steps, why_each};
 use std::alloc::{AllocError, Global};
-
-/// Returns the settings of the steps' lines.
-fn why_settings<'n, 's>(words: &PlanWords<'_, 'n, HeldSpecs<'s>>) -> WhySettings<'n, HeldSpecs<'s>>
-    ensures { settings_text holds_on result ≡ spec.why_settings (words_text holds_on words.now) }
-{
-    WhySettings {
-        split: words.selection.split,
-        test: words.test,
-        host: words.host,
-        targets: words.targets,
-        sides: words.selection.split,
-    }
-}
 
 /// Returns the text of `steps`.
 fn steps_text(
@@ -53,7 +39,7 @@ fn steps_text(
 ) -> Result<Vec<u8>, AllocError>
     ensures { IfOk result (λ text. text.items ≡ spec.steps_text format (workspace_text workspace.now).packages (words_text holds_on words.now) (map why_text steps.now)) }
 {
-    let settings = why_settings(words);
+    let settings = settings_of(words);
     match format {
         Format::Text => Ok(why_lines(alloc, workspace, &settings, steps)?.into_bytes()),
         Format::Json => why_objects(alloc, workspace, &settings, steps),
@@ -70,7 +56,7 @@ fn reasoned_text(
 ) -> Result<Vec<u8>, AllocError>
     ensures { IfOk result (λ text. text.items ≡ spec.reasoned_text format (workspace_text workspace.now).packages (words_text holds_on words.now) (map reasoned_view steps.now)) }
 {
-    let settings = why_settings(words);
+    let settings = settings_of(words);
     match format {
         Format::Text => Ok(reasoned_lines(alloc, workspace, &settings, steps)?.into_bytes()),
         Format::Json => reasoned_objects(alloc, workspace, &settings, steps),

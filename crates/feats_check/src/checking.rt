@@ -7,7 +7,6 @@ mod objects;
 mod planned;
 mod question;
 mod rules;
-mod settings;
 mod warnings;
 
 pub use answers::policy_answer;

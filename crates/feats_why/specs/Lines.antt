@@ -15,7 +15,7 @@ pub record RowText : Type 0 where
   pub reason : Text
 
 abbrev pub row_of : List PackageText → SettingsText → WhyText → RowText
-row_of packages s step = record { label = spot_label packages s.sides step.spot; reason = reason_words packages s step.spot step.reason }
+row_of packages s step = record { label = spot_label packages s.split step.spot; reason = reason_words packages s step.spot step.reason }
 
 -- The line of a row: columns are two spaces apart.
 abbrev pub line_of : ℕ → RowText → Text

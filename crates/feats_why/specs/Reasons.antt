@@ -66,4 +66,4 @@ reason_by packages sides start r = subject_text packages sides (subject r start)
 abbrev pub reason_words : List PackageText → SettingsText → SpotText → ReasonText → Text
 reason_words packages s at selected = codes "selected"
 reason_words packages s at (from start gate) =
-    reason_by packages s.sides start (relation_from start at) ++ (platform_words (shown_platforms s packages start at) ++ gate_words packages s.sides gate)
+    reason_by packages s.split start (relation_from start at) ++ (platform_words (shown_platforms s packages start at) ++ gate_words packages s.split gate)

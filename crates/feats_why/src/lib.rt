@@ -18,6 +18,6 @@ pub use objects::{why_objects, write_steps};
 pub use plan_whys::{ReasonedStep, Spot, WhyReason, WhyStep};
 pub use reason_objects::reasoned_objects;
 pub use reason_rows::reasoned_lines;
-pub use settings::WhySettings;
+pub use settings::{WhySettings, settings_of};
 pub use table::{each_why_lines, why_lines};
 pub use unbuilt::{UnbuiltSpot, unbuilt_lines, unbuilt_message};

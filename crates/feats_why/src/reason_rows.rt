@@ -56,7 +56,7 @@ fn push_reasons<P: Platform>(
     reasons: &[WhyReason<'_>],
 ) -> Result<(), AllocError>
     requires labels { AreLabels labels.now }
-    requires sides { labels.now.sides ≡ settings.now.sides }
+    requires sides { labels.now.sides ≡ settings.now.split }
     ensures { OnOk result (map row_text rows.new.items ≡ fold spec.with_words (map row_text rows.old.items) (map (words_of (packages_of labels.now) (settings_text P.holds settings.now) (spot_text at.entry)) (map reason_text reasons.now))) }
 {
     for reason in reasons {
@@ -74,7 +74,7 @@ fn rows_with_reasons<P: Platform>(
     reasoned: &ReasonedStep<'_>,
 ) -> Result<Vec<Row>, AllocError>
     requires labels { AreLabels labels.now }
-    requires sides { labels.now.sides ≡ settings.now.sides }
+    requires sides { labels.now.sides ≡ settings.now.split }
     ensures { IfOk result (λ rows. map row_text rows.items ≡ spec.rows_with_reasons (packages_of labels.now) (settings_text P.holds settings.now) (reasoned_text reasoned.now)) }
 {
     let mut rows = Vec::new(alloc);
@@ -98,7 +98,7 @@ fn shown_rows<P: Platform>(
     reasoned: &ReasonedStep<'_>,
 ) -> Result<Vec<Row>, AllocError>
     requires labels { AreLabels labels.now }
-    requires sides { labels.now.sides ≡ settings.now.sides }
+    requires sides { labels.now.sides ≡ settings.now.split }
     ensures { IfOk result (λ rows. map row_text rows.items ≡ spec.shown_rows (packages_of labels.now) (settings_text P.holds settings.now) (reasoned_text reasoned.now)) }
 {
     if is_shown(&reasoned.step) {
@@ -116,7 +116,7 @@ fn all_rows<P: Platform>(
     steps: &[ReasonedStep<'_>],
 ) -> Result<Vec<Row>, AllocError>
     requires labels { AreLabels labels.now }
-    requires sides { labels.now.sides ≡ settings.now.sides }
+    requires sides { labels.now.sides ≡ settings.now.split }
     ensures { IfOk result (λ rows. map row_text rows.items ≡ flat_map (spec.shown_rows (packages_of labels.now) (settings_text P.holds settings.now)) (map reasoned_text steps.now)) }
 {
     let mut rows = Vec::new(alloc);
@@ -138,7 +138,7 @@ pub fn reasoned_lines<P: Platform>(
     ensures { IfOk result (λ text. string_bytes text ≡ spec.reasoned_lines (workspace_text workspace.now).packages (settings_text P.holds settings.now) (map reasoned_text steps.now)) }
 {
     let versions = names_of(alloc, workspace.packages())?;
-    let labels = labels_of(alloc, workspace.packages(), &versions, settings.sides)?;
+    let labels = labels_of(alloc, workspace.packages(), &versions, settings.split)?;
     let rows = all_rows(alloc, &labels, settings, steps)?;
     table_of(alloc, &rows)
 }

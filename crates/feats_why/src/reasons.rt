@@ -163,7 +163,7 @@ fn push_reason<P: Platform>(
     reason: WhyReason<'_>,
 ) -> Result<(), AllocError>
     requires labels { AreLabels labels.now }
-    requires sides { labels.now.sides ≡ settings.now.sides }
+    requires sides { labels.now.sides ≡ settings.now.split }
     ensures { OnOk result (string_bytes text.new ≡ string_bytes text.old ++ spec.reason_words (packages_of labels.now) (settings_text P.holds settings.now) (spot_text at.entry) (reason_text reason.entry)) }
 {
     match reason {
@@ -186,7 +186,7 @@ pub(crate) fn reason_words<P: Platform>(
     reason: WhyReason<'_>,
 ) -> Result<String, AllocError>
     requires labels { AreLabels labels.now }
-    requires sides { labels.now.sides ≡ settings.now.sides }
+    requires sides { labels.now.sides ≡ settings.now.split }
     ensures { IfOk result (λ text. string_bytes text ≡ spec.reason_words (packages_of labels.now) (settings_text P.holds settings.now) (spot_text at.entry) (reason_text reason.entry)) }
 {
     let mut text = String::new(alloc);

@@ -30,7 +30,7 @@ pub(crate) fn row_of<P: Platform>(
     step: &WhyStep<'_>,
 ) -> Result<Row, AllocError>
     requires labels { AreLabels labels.now }
-    requires sides { labels.now.sides ≡ settings.now.sides }
+    requires sides { labels.now.sides ≡ settings.now.split }
     ensures { IfOk result (λ row. row_text row ≡ spec.row_of (packages_of labels.now) (settings_text P.holds settings.now) (why_text step.now)) }
 {
     Ok(Row {
@@ -47,7 +47,7 @@ pub(crate) fn rows_of<P: Platform>(
     steps: &[WhyStep<'_>],
 ) -> Result<Vec<Row>, AllocError>
     requires labels { AreLabels labels.now }
-    requires sides { labels.now.sides ≡ settings.now.sides }
+    requires sides { labels.now.sides ≡ settings.now.split }
     ensures { IfOk result (λ rows. map row_text rows.items ≡ map (spec.row_of (packages_of labels.now) (settings_text P.holds settings.now)) (filter relation.is_shown (map why_text steps.now))) }
 {
     let mut rows = Vec::with_capacity(alloc, steps.len())?;

@@ -106,7 +106,7 @@ fn lines_by<P: Platform>(
     steps: &[WhyStep<'_>],
 ) -> Result<String, AllocError>
     requires labels { AreLabels labels.now }
-    requires sides { labels.now.sides ≡ settings.now.sides }
+    requires sides { labels.now.sides ≡ settings.now.split }
     ensures { IfOk result (λ text. string_bytes text ≡ spec.why_lines (packages_of labels.now) (settings_text P.holds settings.now) (map why_text steps.now)) }
 {
     let rows = rows_of(alloc, labels, settings, steps)?;
@@ -121,7 +121,7 @@ fn each_by<P: Platform>(
     lists: &[&[WhyStep<'_>]],
 ) -> Result<Vec<String>, AllocError>
     requires labels { AreLabels labels.now }
-    requires sides { labels.now.sides ≡ settings.now.sides }
+    requires sides { labels.now.sides ≡ settings.now.split }
     ensures { IfOk result (λ texts. map string_bytes texts.items ≡ map (spec.why_lines (packages_of labels.now) (settings_text P.holds settings.now)) (map steps_text lists.now)) }
 {
     let mut texts = Vec::with_capacity(alloc, lists.len())?;
@@ -143,7 +143,7 @@ pub fn why_lines<P: Platform>(
     ensures { IfOk result (λ text. string_bytes text ≡ spec.why_lines (workspace_text workspace.now).packages (settings_text P.holds settings.now) (map why_text steps.now)) }
 {
     let versions = names_of(alloc, workspace.packages())?;
-    let labels = labels_of(alloc, workspace.packages(), &versions, settings.sides)?;
+    let labels = labels_of(alloc, workspace.packages(), &versions, settings.split)?;
     lines_by(alloc, &labels, settings, steps)
 }
 
@@ -157,6 +157,6 @@ pub fn each_why_lines<P: Platform>(
     ensures { IfOk result (λ texts. map string_bytes texts.items ≡ map (spec.why_lines (workspace_text workspace.now).packages (settings_text P.holds settings.now)) (map steps_text lists.now)) }
 {
     let versions = names_of(alloc, workspace.packages())?;
-    let labels = labels_of(alloc, workspace.packages(), &versions, settings.sides)?;
+    let labels = labels_of(alloc, workspace.packages(), &versions, settings.split)?;
     each_by(alloc, &labels, settings, lists)
 }

@@ -5,14 +5,10 @@ use Rattle.cargo_plans.specs.Plans.{WordsText}
 use Rattle.plan_names.specs.wider.texts.Lines.{SaidText}
 use Rattle.plan_names.specs.wider.texts.Lines as said
 use Rattle.feats_why.specs.Lines.{why_lines}
-use Rattle.feats_why.specs.Settings.{SettingsText}
+use Rattle.feats_why.specs.Settings.{settings_of}
 use Rattle.feats_why_not.specs.Answers.{AnswerText, explained, not_planned, off, unbuilt}
 use Rattle.feats_why_not.specs.Tries.{TypedText}
 use Rattle.feats_why_not.specs.Typed.{typed_line}
-
--- The settings of the lines that explain a plan of the words.
-abbrev pub settings_of : WordsText → SettingsText
-settings_of words = record { split = words.selection.split; test = words.test; host = words.host; targets = words.targets; sides = words.selection.split }
 
 -- What is said by an answer, and by the words to type.
 abbrev pub said_of : List PackageText → WordsText → AnswerText → Option TypedText → SaidText

@@ -9,7 +9,7 @@ use Rattle.plan_names.specs.declared.wider.widenings.widening.Widening.TheVarian
 use Rattle.plan_whys.specs.Steps.{WhyText}
 use Rattle.feats_why.specs.Objects.{dependency_name, feature_name, id_at, step_objects}
 use Rattle.feats_why_not.specs.Answers.{AnswerText, explained, not_planned, off, unbuilt}
-use Rattle.feats_why_not.specs.Lines.{settings_of}
+use Rattle.feats_why.specs.Settings.{settings_of}
 use Rattle.feats_why_not.specs.Parts.{PartText}
 use Rattle.feats_why_not.specs.Tries.{TypedText}
 use Rattle.feats_why_not.specs.Typed.{typed_text}

@@ -10,7 +10,6 @@ mod messages;
 mod objects;
 mod parts;
 mod sections;
-mod settings;
 mod small_words;
 mod spots;
 mod standings;

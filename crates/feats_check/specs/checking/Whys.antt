@@ -14,11 +14,7 @@ use Rattle.feats_policies.specs.declared.checks.judged.Judged.{Judged}
 use Rattle.feats_check.specs.checking.Questions.{QuestionText}
 use Rattle.feats_why.specs.Lines.{why_lines}
 use Rattle.feats_why.specs.Objects.{step_objects}
-use Rattle.feats_why.specs.Settings.{SettingsText}
-
--- The settings of the lines that explain a plan of the words. The side is shown, if the resolver tells sides apart.
-abbrev pub settings_of : WordsText → SettingsText
-settings_of words = record { split = words.selection.split; test = words.test; host = words.host; targets = words.targets; sides = words.selection.split }
+use Rattle.feats_why.specs.Settings.{settings_of}
 
 -- The lines of an explanation; none, if there is none.
 abbrev pub steps_lines : List PackageText → WordsText → List WhyText → Text

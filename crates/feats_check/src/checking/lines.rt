@@ -9,12 +9,11 @@ ghost use Rattle.feats_check.specs.checking.Whys as spec;
 ghost use Rattle.feats_check.specs.texts.Lines.{verdict_lines};
 
 use crate::checking::planned::Planned;
-use crate::checking::settings::settings_of;
 use crate::texts::push_verdict;
 use cargo_plans::PlanWords;
 use cargo_workspaces::Workspace;
 use feats_policies::Rule;
-use feats_why::why_lines;
+use feats_why::{settings_of, why_lines};
 use plan_rows::platforms::HeldSpecs;
 use plan_whys::WhyStep;
 use std::alloc::{AllocError, Global};

@@ -11,13 +11,12 @@ ghost use Rattle.feats_check.specs.checking.Whys as spec;
 ghost use Rattle.feats_check.specs.texts.Objects.{rule_members};
 
 use crate::checking::planned::Planned;
-use crate::checking::settings::settings_of;
 use crate::texts::write_rule;
 use cargo_plans::PlanWords;
 use cargo_workspaces::Workspace;
 use feats_lines::parts::{begin_line, end_line};
 use feats_policies::Rule;
-use feats_why::write_steps;
+use feats_why::{settings_of, write_steps};
 use json::Writer;
 use plan_rows::platforms::HeldSpecs;
 use plan_whys::WhyStep;

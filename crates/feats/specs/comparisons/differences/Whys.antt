@@ -4,7 +4,6 @@ use Rattle.std.specs.List.{AllZip, ends_with}
 use Rattle.std.specs.Option.{option_map_or}
 use Rattle.cargo_plans.specs.Plans.{AfterWords, settings_by}
 use Rattle.cargo_workspaces.specs.Workspaces.{Text}
-use Rattle.feats_answers.specs.WhyTexts.{why_settings}
 use Rattle.feature_labels.specs.Names.{LabelName}
 use Rattle.feature_labels.specs.Names.LabelName.{base, named}
 use Rattle.feats_diff.specs.changes.Changes.{ChangeText}
@@ -19,6 +18,7 @@ use Rattle.cargo_plans.specs.declared.plan_units.unit.Place.TheVariants as place
 use Rattle.plan_whys.specs.Steps.{SpotText, WhyText}
 use Rattle.plan_whys.specs.Whys.{Answers}
 use Rattle.feats_why.specs.Lines.{why_lines}
+use Rattle.feats_why.specs.Settings.{settings_of}
 use Rattle.feats.specs.comparisons.differences.Builds.{BuildText}
 
 -- The side whose features a place has.
@@ -51,7 +51,7 @@ last_of (Some steps) = drop (length steps - 1) steps
 
 -- The line of the last step of an answer of `why`, as `why` shows it; the empty text if the part is off.
 abbrev pub last_found : BuildText → Option (List WhyText) → Text
-last_found b found = without_feed (why_lines b.workspace.packages (why_settings b.words) (last_of found))
+last_found b found = without_feed (why_lines b.workspace.packages (settings_of b.words) (last_of found))
 
 -- For each of the spots, the last step of why it is on.
 pub record AreWhys (b : BuildText) (spots : List SpotText) (whys : List Text) : Type 0 where

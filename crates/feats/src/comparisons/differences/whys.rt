@@ -2,19 +2,17 @@
 ghost use Rattle.std.specs.Prelude.{◌≡◌, ◌++◌, ◌-◌, IfOk, OnOk, drop, flat_map, length, map, string_bytes};
 ghost use Rattle.cargo_plans.specs.Plans.{IsPlanOf};
 ghost use Rattle.feature_labels.specs.Names.{label_of};
-ghost use Rattle.feats_answers.specs.WhyTexts as answers;
 ghost use Rattle.feats.specs.comparisons.differences.Views.{build_text, whys_text};
 ghost use Rattle.feats.specs.comparisons.differences.Whys as spec;
 ghost use Rattle.feats_diff.specs.changes.Views.{change_text, differences_text, part_text};
 ghost use Rattle.plan_rows.specs.platforms.HeldSpecs.{holds_on};
 ghost use Rattle.plan_whys.specs.StepViews.{found_text, spot_text, why_text};
-ghost use Rattle.feats_why.specs.Settings.{settings_text};
 ghost use Rattle.feats_why.specs.Views.{steps_text};
 
 use crate::comparisons::differences::builds::Build;
 use cargo_plans::{Place, Side};
 use feats_diff::changes::{Change, Differences, Part};
-use feats_why::{WhySettings, each_why_lines};
+use feats_why::{each_why_lines, settings_of};
 use feature_labels::FeatureLabel;
 use plan_rows::platforms::HeldSpecs;
 use plan_whys::{Spot, WhyStep, why_each};
@@ -107,19 +105,6 @@ fn feature_spots<'w>(
     Ok(spots)
 }
 
-/// Returns the settings of the steps' lines.
-fn why_settings<'n, 's>(build: &Build<'_, '_, '_, 'n, 's>) -> WhySettings<'n, HeldSpecs<'s>>
-    ensures { settings_text holds_on result ≡ answers.why_settings (build_text build.now).words }
-{
-    WhySettings {
-        split: build.words.selection.split,
-        test: build.words.test,
-        host: build.words.host,
-        targets: build.words.targets,
-        sides: build.words.selection.split,
-    }
-}
-
 /// Returns `line` without the line feed at its end.
 fn without_feed(line: &str) -> &str
     ensures { result.now ≡ spec.without_feed line.now }
@@ -181,7 +166,7 @@ fn last_steps(
 ) -> Result<Vec<String>, AllocError>
     ensures { IfOk result (λ whys. map string_bytes whys.items ≡ map (spec.last_found (build_text build.now)) (map found_text founds.now)) }
 {
-    let settings = why_settings(build);
+    let settings = settings_of(build.words);
     let lasts = lasts_found(alloc, founds)?;
     let lines = each_why_lines(alloc, build.workspace, &settings, &lasts)?;
     without_feeds(alloc, &lines)

@@ -10,4 +10,4 @@ pub returns : goal.returns
 returns c =
     ok_with _ _ c.without_feeds.result c.without_feeds.ensures (λ whys shown.
     last_lines (build_text c.args.build.now) _ (map found_text c.args.founds.now) (map steps_text c.deref.result.now) (map string_bytes c.deref-2.result.now) (map string_bytes whys.items)
-    c.why_settings-settings.ensures (ap (map steps_text) c.deref.ensures.value ∙ c.in_ok-lasts.ensures) (ap (map string_bytes) c.deref-2.ensures.value ∙ c.in_ok-lines.ensures) shown)
+    c.settings_of-settings.ensures (ap (map steps_text) c.deref.ensures.value ∙ c.in_ok-lasts.ensures) (ap (map string_bytes) c.deref-2.ensures.value ∙ c.in_ok-lines.ensures) shown)
