@@ -5,7 +5,6 @@ ghost use Rattle.feature_labels.specs.Names.{label_of};
 ghost use Rattle.feats.specs.comparisons.differences.Views.{build_text, whys_text};
 ghost use Rattle.feats.specs.comparisons.differences.Whys as spec;
 ghost use Rattle.feats_diff.specs.changes.Views.{change_text, differences_text, part_text};
-ghost use Rattle.plan_rows.specs.platforms.HeldSpecs.{holds_on};
 ghost use Rattle.plan_whys.specs.StepViews.{found_text, spot_text, why_text};
 ghost use Rattle.feats_why.specs.Views.{steps_text};
 
@@ -14,7 +13,6 @@ use cargo_plans::{Place, Side};
 use feats_diff::changes::{Change, Differences, Part};
 use feats_why::{each_why_lines, settings_of};
 use feature_labels::FeatureLabel;
-use plan_rows::platforms::HeldSpecs;
 use plan_whys::{Spot, WhyStep, why_each};
 use std::alloc::{AllocError, Global};
 
