@@ -1,3 +1,4 @@
+//! A verdict as text and as JSON: lines, objects, messages and warnings.
 mod lines;
 mod messages;
 mod objects;
