@@ -127,7 +127,7 @@ fn all_rows<P: Platform>(
     Ok(rows)
 }
 
-/// Returns the lines of `feats_why` for the steps, where a further line follows for each other direct reason of a step's spot. Such a line
+/// Returns the lines of `why_lines` for the steps, where a further line follows for each other direct reason of a step's spot. Such a line
 /// has no label. A reason whose words a line of the step has already isn't shown.
 pub fn reasoned_lines<P: Platform>(
     alloc: Global,

@@ -147,7 +147,7 @@ pub fn why_lines<P: Platform>(
     lines_by(alloc, &labels, settings, steps)
 }
 
-/// Returns the lines of each of `lists`, as `feats_why` does.
+/// Returns the lines of each of `lists`, as `why_lines` does.
 pub fn each_why_lines<P: Platform>(
     alloc: Global,
     workspace: &Workspace<'_>,
