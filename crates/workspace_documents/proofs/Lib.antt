@@ -12,3 +12,4 @@ pub mod Whole
 pub mod Sorted
 pub mod Known
 pub mod Rules
+pub mod UseSets

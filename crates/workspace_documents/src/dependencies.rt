@@ -11,8 +11,8 @@ ghost use Rattle.workspace_documents.specs.Views.{text_view, declaration_view, d
 use crate::nodes::Dep;
 use crate::packages::{Declaration, Package};
 use crate::requirements::admits;
+use crate::uses::has_use;
 use cargo_json::DocumentFault;
-use cargo_workspaces::Kind;
 use std::alloc::{AllocError, Global};
 
 /// A declaration and the package that it leads to.
@@ -101,41 +101,11 @@ fn fits(owner: &str, declaration: &Declaration<'_>, dep: &Dep<'_, '_>) -> bool
         )
 }
 
-/// Returns whether `one` and `other` are the same kind.
-fn same_kind(one: Kind, other: Kind) -> bool
-    ensures { result ≡ spec.same_kind one other }
-{
-    matches!(
-        (one, other),
-        (Kind::Normal, Kind::Normal)
-            | (Kind::Build, Kind::Build)
-            | (Kind::Development, Kind::Development)
-    )
-}
-
-/// Returns whether `one` and `other` are the same platform, or both every platform.
-fn same_platform(one: Option<&str>, other: Option<&str>) -> bool
-    ensures { result ≡ spec.same_platform (option_map text_view one.entry) (option_map text_view other.entry) }
-{
-    match (one, other) {
-        (None, None) => true,
-        (Some(one), Some(other)) => one == other,
-        _ => false,
-    }
-}
-
 /// Returns whether `dep` is used for the kind and the platform of `declaration`.
 fn is_used(declaration: &Declaration<'_>, dep: &Dep<'_, '_>) -> bool
     ensures { result ≡ spec.is_used (declaration_view declaration.now) (dep_view dep.now) }
 {
-    for it in &dep.uses {
-        if same_kind(it.kind, declaration.kind)
-            && same_platform(it.platform, declaration.platform)
-        {
-            return true;
-        }
-    }
-    false
+    has_use(&dep.uses, declaration.kind, declaration.platform)
 }
 
 /// Returns whether `dep` has the declared name in code, even if it is the package itself.
