@@ -13,3 +13,4 @@ pub mod Sorted
 pub mod Known
 pub mod Rules
 pub mod UseSets
+pub mod Named

@@ -3,6 +3,7 @@
 
 mod dependencies;
 mod leads;
+mod names;
 mod nodes;
 mod packages;
 mod requirements;
@@ -11,6 +12,7 @@ mod uses;
 
 pub use dependencies::{Dependency, Found, check_names, choice, dependencies_of, name_of};
 pub use leads::{Described, Leads, Links, described_in};
+pub use names::{Names, names_of};
 pub use nodes::{Dep, Node, Nodes, Resolved, node_at, resolved_in};
 pub use packages::{Declaration, Package, Packages, Use, packages_of};
 pub use uses::{Platforms, Uses};
