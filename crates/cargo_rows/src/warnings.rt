@@ -3,10 +3,11 @@ ghost use Rattle.std.specs.Prelude.{◌≡◌, ◌++◌, List, IfOk, OnOk, map, 
 ghost use Rattle.std.specs.List.{list_any};
 ghost use Rattle.std.specs.Str.{bytes_eq};
 ghost use Rattle.cargo_json.specs.Faults.{Text};
+ghost use Rattle.workspace_documents.specs.Names.{HasNames};
 ghost use Rattle.workspace_documents.specs.Nodes.{no_node};
 ghost use Rattle.cargo_rows.specs.Warnings as spec;
 ghost use Rattle.cargo_workspaces.specs.Views.{feature_text};
-ghost use Rattle.workspace_documents.specs.Views.{text_view, declaration_view, node_view, package_view, entries_view};
+ghost use Rattle.workspace_documents.specs.Views.{text_view, declaration_view, dep_view, node_view, package_view, entries_view};
 ghost use Rattle.cargo_rows.specs.inner.Views.{HasTexts};
 
 use crate::sets::set_of;
@@ -15,7 +16,7 @@ use std::alloc::{AllocError, Global};
 use std::collections::BTreeSet;
 use std::fmt;
 use workspace_documents::{
-    Declaration, Found, Node, Nodes, Package, Packages, choice, name_of, node_at,
+    Declaration, Found, Names, Node, Nodes, Package, Packages, choice, name_of, names_of, node_at,
 };
 
 /// A declaration of a workspace package that should lead to a package but doesn't. `Display` prints the line for standard error.
@@ -152,11 +153,13 @@ fn is_lost(
     libraries: &BTreeSet<&str>,
     package: &Package<'_>,
     node: &Node<'_, '_>,
+    names: &Names<'_>,
     declaration: &Declaration<'_>,
 ) -> Result<bool, AllocError>
+    requires { HasNames names.now (map dep_view node.now.deps.items) }
     ensures { IfOk result (λ b. (texts : List Text) → HasTexts libraries.now texts → b ≡ spec.is_lost texts (package_view «package».now) (node_view node.now) (declaration_view declaration.now)) }
 {
-    match choice(alloc, package.id, declaration, &node.deps)? {
+    match choice(alloc, package.id, declaration, &node.deps, names)? {
         Found::Nothing => Ok(is_expected(libraries, package, node, declaration)),
         _ => Ok(false),
     }
@@ -186,8 +189,9 @@ fn push_warnings(
 ) -> Result<(), AllocError>
     ensures { OnOk result ((texts : List Text) → HasTexts libraries.now texts → map spec.warning_view warnings.new.items ≡ map spec.warning_view warnings.old.items ++ spec.package_warnings texts (package_view «package».now) (node_view node.now)) }
 {
+    let names = names_of(alloc, &node.deps)?;
     for declaration in &package.declarations {
-        if is_lost(alloc, libraries, package, node, declaration)? {
+        if is_lost(alloc, libraries, package, node, &names, declaration)? {
             warnings.push(warning_of(alloc, package, declaration)?)?;
         }
     }

@@ -11,8 +11,8 @@ use Rattle.cargo_json.specs.declared.fault.Place.TheVariants as place
 use Rattle.cargo_json.specs.Faults.{Text, Refusal, ◌>>=◌}
 use Rattle.cargo_json.specs.Fields.{text_in, optional_text_in, list_in, texts_in}
 use Rattle.workspace_documents.specs.Lists.{ById, at_id, each}
-use Rattle.workspace_documents.specs.Packages.{DeclarationText, PackageText, use_in}
-use Rattle.workspace_documents.specs.Nodes.{DepText, NodeText, ResolvedText, found_or, package_at, dep_in, no_node, node_in, resolve_in, nodes_in, known, members_in, node_of, resolved_in}
+use Rattle.workspace_documents.specs.Packages.{DeclarationText, PackageText}
+use Rattle.workspace_documents.specs.Nodes.{DepText, NodeText, ResolvedText, found_or, package_at, uses_in, dep_in, no_node, node_in, resolve_in, nodes_in, known, members_in, node_of, resolved_in}
 use Rattle.workspace_documents.specs.Dependencies.{FoundPackage, nothing, one, several, found_of, pick, if_nothing, choice_of, is_used, is_admitted, is_as_named, one_or, led_to, choice}
 use Rattle.workspace_documents.specs.Leads.{single, lead_in, leads_in, all_leads, root_of, root_in}
 use Rattle.workspace_documents.specs.Rules.{is_known, is_known_if_any, LeadsOf}
@@ -102,7 +102,7 @@ module _ (packages : ById PackageText) where
         let id = both_ok (text_in (place.Dep n i) (codes "pkg") d) _ dep extern_name.2 in
         let kinds = both_ok (list_in (place.Dep n i) (codes "dep_kinds") d) _ dep id.2 in
         let target = both_ok (package_at packages (place.Dep n i) (codes "pkg") id.0) _ dep kinds.2 in
-        let uses = both_ok (each (λ (k : ℕ). use_in (place.DepKind n i k)) 0 kinds.0) _ dep target.2 in
+        let uses = both_ok (uses_in n i kinds.0) _ dep target.2 in
         ap knows (sym (ok_same _ dep uses.2)) ∙ own_known packages own id.0 target.0 (found (place.Dep n i) (codes "pkg") id.0 (at_id id.0 packages) target.0 target.1)
 
     node_known : (n : ℕ) (d : Json) (e : Text × NodeText) → node_in packages n d ≡ Ok e → KnownDeps e

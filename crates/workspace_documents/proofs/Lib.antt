@@ -12,3 +12,5 @@ pub mod Whole
 pub mod Sorted
 pub mod Known
 pub mod Rules
+pub mod UseSets
+pub mod Named

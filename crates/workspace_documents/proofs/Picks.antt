@@ -1,17 +1,17 @@
 -- The search among used packages and the declarations that lead to one, step by step.
 use Rattle.std.proofs.Common.{◌≡◌, ◌∙◌, sym, ap, refl, ℕ, ◌+◌, ◌<◌, List, [], ◌∷◌, ◌++◌, map, length, take, drop, get_or, Bool, true, false, add-one, drop-cons}
-use Rattle.std.specs.Prelude.{filter, Option, Result, Ok, Err, Some, None}
+use Rattle.std.specs.Prelude.{filter, Option, Result, Ok, Err, Some, None, slice_get}
 use Rattle.std.proofs.lemmas.List.{take_more, map-append, append-nil}
-use Rattle.std.proofs.lemmas.List.Elements.{filter-append}
+use Rattle.std.proofs.lemmas.List.Elements.{filter-append, filter_map-append}
 use Rattle.workspace_documents.specs.declared.packages.Declaration.{Declaration}
-use Rattle.workspace_documents.specs.declared.nodes.Dep.{Dep}
 use Rattle.workspace_documents.specs.declared.dependencies.Asked.{Asked}
 use Rattle.workspace_documents.specs.Packages.{DeclarationText, PackageText}
 use Rattle.workspace_documents.specs.Nodes.{DepText}
 use Rattle.cargo_json.specs.Faults.{Text, Refusal, ◌>>=◌}
 use Rattle.workspace_documents.specs.Dependencies.{nothing, found_of, pick, DependencyText, target_of, with_target, led}
 use Rattle.workspace_documents.specs.inner.Picks.{with_one, and_one, answers, meets}
-use Rattle.workspace_documents.specs.Views.{declaration_view, dep_view, package_view}
+use Rattle.workspace_documents.specs.Names.{at_places}
+use Rattle.workspace_documents.specs.Views.{declaration_view}
 use Rattle.workspace_documents.proofs.Lists.{prepend, prepend_one}
 
 found_of-more : (ps : List PackageText) (p : PackageText) → found_of (ps ++ p ∷ []) ≡ with_one (found_of ps) p
@@ -26,16 +26,22 @@ tested : (t : DepText → Bool) (ds : List DepText) (z : DepText) (b : Bool) →
 tested t ds z true e = rw (filter-append t ds (z ∷ []), e, map-append target (filter t ds) (z ∷ [])) (found_of-more _ _)
 tested t ds z false e = rw (filter-append t ds (z ∷ []), e, map-append target (filter t ds) []) (ap found_of (append-nil _))
 
+-- the packages at the places up to the next one
+at_more : (deps : List DepText) (places : List ℕ) (i : ℕ) → i < length places → at_places deps (take (i + 1) places) ≡ at_places deps (take i places) ++ at_places deps (get_or places i 0 ∷ [])
+at_more deps places i h = ap (at_places deps) (take_more places i 0 h) ∙ filter_map-append (slice_get deps) (take i places) (get_or places i 0 ∷ [])
+
 pub pick_none : (ask : Asked) (id : Text) (d : DeclarationText) → pick (answers ask) id d [] ≡ nothing
 unfolding pick
 pick_none ask id d = refl
 
-pub pick_step : (ask : Asked) (id : Text) (d : DeclarationText) (ds : List Dep) (i : ℕ) (z : Dep) → i < length ds → z ≡ get_or ds i z → and_one (meets ask id d (dep_view z)) (pick (answers ask) id d (map dep_view (take i ds))) (package_view z.target.now) ≡ pick (answers ask) id d (map dep_view (take (i + 1) ds))
+-- one more place
+pub pick_step : (ask : Asked) (id : Text) (d : DeclarationText) (deps : List DepText) (places : List ℕ) (i : ℕ) (z : DepText) → i < length places → slice_get deps (get_or places i 0) ≡ Some z → and_one (meets ask id d z) (pick (answers ask) id d (at_places deps (take i places))) z.target ≡ pick (answers ask) id d (at_places deps (take (i + 1) places))
 unfolding pick meets
-pick_step ask id d ds i z h e =
-    let more : take (i + 1) ds ≡ take i ds ++ z ∷ [] = take_more ds i z h ∙ ap (λ x. take i ds ++ x ∷ []) (sym e) in
-    let seen : map dep_view (take (i + 1) ds) ≡ map dep_view (take i ds) ++ dep_view z ∷ [] = ap (map dep_view) more ∙ map-append dep_view (take i ds) (z ∷ []) in
-    sym (ap (λ xs. found_of (map target (filter (meets ask id d) xs))) seen ∙ tested (meets ask id d) (map dep_view (take i ds)) (dep_view z) (meets ask id d (dep_view z)) refl)
+pick_step ask id d deps places i z h there =
+    sym (ap (λ xs. found_of (map target (filter (meets ask id d) xs))) (at_more deps places i h ∙ rw there refl) ∙ tested (meets ask id d) (at_places deps (take i places)) z (meets ask id d z) refl)
+
+pub pick_past : (ask : Asked) (id : Text) (d : DeclarationText) (deps : List DepText) (places : List ℕ) (i : ℕ) → i < length places → slice_get deps (get_or places i 0) ≡ None → pick (answers ask) id d (at_places deps (take i places)) ≡ pick (answers ask) id d (at_places deps (take (i + 1) places))
+pick_past ask id d deps places i h none = ap (pick (answers ask) id d) (sym (at_more deps places i h ∙ rw none (append-nil _)))
 
 same_rest : {X : Type 0} (rest : Result (List X) Refusal) → (rest >>= λ xs. Ok xs) ≡ rest
 same_rest (Ok xs) = refl

@@ -1,10 +1,8 @@
 -- The package that each declaration leads to.
 use Rattle.std.specs.Prelude.{ℕ, ◌&&◌, ◌==◌, List, [], ◌∷◌, map, Bool, true, false, not, Option, Some, None, Result, Ok, Err, filter, if◌then◌else◌, ⊤}
-use Rattle.std.specs.List.{list_any, find}
+use Rattle.std.specs.List.{find}
 use Rattle.std.specs.Str.{bytes_eq}
 use Rattle.std.specs.Cmp.Lexicographic.{pointwise}
-use Rattle.cargo_workspaces.specs.declared.package.Kind.{Kind}
-use Rattle.cargo_workspaces.specs.declared.package.Kind.TheVariants as kind
 use Rattle.cargo_json.specs.Faults.{Text, Refusal, ambiguous, two_names, ◌>>=◌}
 use Rattle.workspace_documents.specs.Packages.{DeclarationText, PackageText}
 use Rattle.workspace_documents.specs.Nodes.{DepText}
@@ -36,20 +34,9 @@ rename_of id d dep = if bytes_eq dep.target.id id then None else d.rename
 abbrev pub fits : Text → DeclarationText → DepText → Bool
 fits id d dep = bytes_eq dep.target.name d.name && is_in_code dep.extern_name (called (rename_of id d dep) dep.target)
 
-abbrev pub same_kind : Kind → Kind → Bool
-same_kind kind.Normal kind.Normal = true
-same_kind kind.Build kind.Build = true
-same_kind kind.Development kind.Development = true
-same_kind _ _ = false
-
-abbrev pub same_platform : Option Text → Option Text → Bool
-same_platform None None = true
-same_platform (Some a) (Some b) = bytes_eq a b
-same_platform _ _ = false
-
--- whether one of the package's uses has the kind and the platform of the declaration
+-- whether the package is used for the kind and the platform of the declaration
 abbrev pub is_used : DeclarationText → DepText → Bool
-is_used d dep = list_any (λ u. same_kind u.kind d.kind && same_platform u.platform d.platform) dep.uses
+is_used d dep = dep.uses (record { kind = d.kind; platform = d.platform })
 
 -- whether the declaration's requirement admits the package's version
 abbrev pub is_admitted : DeclarationText → DepText → Bool

@@ -9,3 +9,4 @@ pub mod Rules
 pub mod Views
 pub mod LeadViews
 pub mod inner
+pub mod Names

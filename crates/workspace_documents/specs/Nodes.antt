@@ -1,14 +1,15 @@
 -- The members of the workspace, and the packages that each package uses.
-use Rattle.std.specs.Prelude.{ℕ, List, [], ◌∷◌, codes, Option, Some, None, Result, Ok, Err, ⊤}
+use Rattle.std.specs.Prelude.{ℕ, List, [], ◌∷◌, codes, Bool, Option, Some, None, Result, Ok, Err, ⊤}
+use Rattle.std.specs.List.{list_any}
 use Rattle.std.specs.Option.{unwrap_or}
-use Rattle.json.specs.Json.{Json, null, boolean, number, string, array, object}
+use Rattle.json.specs.Json.{Json, Items, null, boolean, number, string, array, object}
 use Rattle.json.specs.Find.{get}
 use Rattle.cargo_json.specs.declared.fault.Place.{Place}
 use Rattle.cargo_json.specs.declared.fault.Place.TheVariants as place
 use Rattle.cargo_json.specs.Faults.{Text, Refusal, no_package, no_deps, ◌>>=◌}
 use Rattle.cargo_json.specs.Fields.{wanted, text_in, list_in, texts_in}
 use Rattle.workspace_documents.specs.Lists.{each, ById, at_id, each_by_id}
-use Rattle.workspace_documents.specs.Packages.{UseText, use_in, PackageText}
+use Rattle.workspace_documents.specs.Packages.{UseText, use_in, same_use, PackageText}
 use Rattle.workspace_documents.specs.Targets.{texts_at}
 
 -- the package that was found, or the fault that no package has the `id` in the field `name`
@@ -19,11 +20,15 @@ found_or at name id None = Err (no_package at name id)
 unfoldable pub package_at : ById PackageText → Place → Text → Text → Result PackageText Refusal
 package_at packages at name id = found_or at name id (at_id id packages)
 
--- a used package, the name by which code calls it, and its uses
+-- a used package, the name by which code calls it, and whether it is used for a kind and a platform
 pub record DepText : Type 0 where
   pub extern_name : Text
   pub target : PackageText
-  pub uses : List UseText
+  pub uses : UseText → Bool
+
+-- whether the used package at place `i` of node `n` is used for a kind and a platform: whether one of the items has them; or the first fault
+abbrev pub uses_in : ℕ → ℕ → Items → Result (UseText → Bool) Refusal
+uses_in n i kinds = each (λ k. use_in (place.DepKind n i k)) 0 kinds >>= λ uses. Ok (λ asked. list_any (λ u. same_use u asked) uses)
 
 -- the used package at place `i` of node `n`, or its first fault
 unfoldable pub dep_in : ById PackageText → ℕ → ℕ → Json → Result DepText Refusal
@@ -32,7 +37,7 @@ dep_in packages n i d =
     text_in (place.Dep n i) (codes "pkg") d >>= λ id.
     list_in (place.Dep n i) (codes "dep_kinds") d >>= λ kinds.
     package_at packages (place.Dep n i) (codes "pkg") id >>= λ target.
-    each (λ k. use_in (place.DepKind n i k)) 0 kinds >>= λ uses.
+    uses_in n i kinds >>= λ uses.
     Ok (record { extern_name = extern_name; target = target; uses = uses })
 
 -- the node of a package: its enabled features and the packages that it uses

@@ -1,5 +1,5 @@
 -- The packages of a document.
-use Rattle.std.specs.Prelude.{ℕ, List, [], ◌∷◌, codes, Bool, Option, Some, None, Result, Ok, Err, option_and_then, if◌then◌else◌}
+use Rattle.std.specs.Prelude.{◌&&◌, ℕ, List, [], ◌∷◌, codes, Bool, true, false, Option, Some, None, Result, Ok, Err, option_and_then, if◌then◌else◌}
 use Rattle.std.specs.List.{list_any}
 use Rattle.std.specs.Str.{bytes_eq}
 use Rattle.std.specs.BTreeMap.{insert_entry}
@@ -46,6 +46,21 @@ pub record DeclarationText : Type 0 where
 pub record UseText : Type 0 where
   pub kind : Kind
   pub platform : Option Text
+
+abbrev pub same_kind : Kind → Kind → Bool
+same_kind kind.Normal kind.Normal = true
+same_kind kind.Build kind.Build = true
+same_kind kind.Development kind.Development = true
+same_kind _ _ = false
+
+abbrev pub same_platform : Option Text → Option Text → Bool
+same_platform None None = true
+same_platform (Some a) (Some b) = bytes_eq a b
+same_platform _ _ = false
+
+-- whether both have the same kind and the same platform
+abbrev pub same_use : UseText → UseText → Bool
+same_use a b = same_kind a.kind b.kind && same_platform a.platform b.platform
 
 unfoldable pub use_in : Place → Json → Result UseText Refusal
 use_in at d =

@@ -6,13 +6,15 @@ ghost use Rattle.cargo_json.specs.Faults as fault;
 ghost use Rattle.workspace_documents.specs.Dependencies as spec;
 ghost use Rattle.workspace_documents.specs.declared.dependencies.Asked.TheVariants as asked;
 ghost use Rattle.workspace_documents.specs.inner.Picks as picks;
+ghost use Rattle.workspace_documents.specs.Names.{HasNames, at_places};
 ghost use Rattle.workspace_documents.specs.Views.{text_view, declaration_view, dep_view, package_view, dependency_view};
 
+use crate::names::{Names, names_of};
 use crate::nodes::Dep;
 use crate::packages::{Declaration, Package};
 use crate::requirements::admits;
+use crate::uses::has_use;
 use cargo_json::DocumentFault;
-use cargo_workspaces::Kind;
 use std::alloc::{AllocError, Global};
 
 /// A declaration and the package that it leads to.
@@ -101,41 +103,11 @@ fn fits(owner: &str, declaration: &Declaration<'_>, dep: &Dep<'_, '_>) -> bool
         )
 }
 
-/// Returns whether `one` and `other` are the same kind.
-fn same_kind(one: Kind, other: Kind) -> bool
-    ensures { result ≡ spec.same_kind one other }
-{
-    matches!(
-        (one, other),
-        (Kind::Normal, Kind::Normal)
-            | (Kind::Build, Kind::Build)
-            | (Kind::Development, Kind::Development)
-    )
-}
-
-/// Returns whether `one` and `other` are the same platform, or both every platform.
-fn same_platform(one: Option<&str>, other: Option<&str>) -> bool
-    ensures { result ≡ spec.same_platform (option_map text_view one.entry) (option_map text_view other.entry) }
-{
-    match (one, other) {
-        (None, None) => true,
-        (Some(one), Some(other)) => one == other,
-        _ => false,
-    }
-}
-
 /// Returns whether `dep` is used for the kind and the platform of `declaration`.
 fn is_used(declaration: &Declaration<'_>, dep: &Dep<'_, '_>) -> bool
     ensures { result ≡ spec.is_used (declaration_view declaration.now) (dep_view dep.now) }
 {
-    for it in &dep.uses {
-        if same_kind(it.kind, declaration.kind)
-            && same_platform(it.platform, declaration.platform)
-        {
-            return true;
-        }
-    }
-    false
+    has_use(&dep.uses, declaration.kind, declaration.platform)
 }
 
 /// Returns whether `dep` has the declared name in code, even if it is the package itself.
@@ -240,20 +212,22 @@ fn and_one<'p, 'v>(
     }
 }
 
-/// Searches `deps` for the packages that fit `declaration` and meet `asked`. The only error is out of memory.
-#[tactic(auto, using(crate::proofs::Picks::pick_none, crate::proofs::Picks::pick_step))]
+/// Searches those of `deps` at `places` for the packages that fit `declaration` and meet `asked`. The only error is out of memory.
 fn pick<'p, 'v>(
     alloc: Global,
     asked: Asked,
     owner: &str,
     declaration: &Declaration<'_>,
     deps: &[Dep<'p, 'v>],
+    places: &[usize],
 ) -> Result<Found<'p, 'v>, AllocError>
-    ensures { IfOk result (λ found. picks.found_view found ≡ spec.pick (picks.answers asked) owner.now (declaration_view declaration.now) (map dep_view deps.now)) }
+    ensures { IfOk result (λ found. picks.found_view found ≡ spec.pick (picks.answers asked) owner.now (declaration_view declaration.now) (at_places (map dep_view deps.now) places.now)) }
 {
     let mut found = Found::Nothing;
-    for dep in deps {
-        found = and_one(alloc, asked, owner, declaration, dep, found)?;
+    for place in places {
+        if let Some(dep) = deps.get(*place) {
+            found = and_one(alloc, asked, owner, declaration, dep, found)?;
+        }
     }
     Ok(found)
 }
@@ -264,38 +238,58 @@ fn by_requirement<'p, 'v>(
     owner: &str,
     declaration: &Declaration<'_>,
     deps: &[Dep<'p, 'v>],
+    places: &[usize],
 ) -> Result<Found<'p, 'v>, AllocError>
-    ensures { IfOk result (λ found. picks.found_view found ≡ spec.if_nothing (spec.pick (picks.answers asked.Both) owner.now (declaration_view declaration.now) (map dep_view deps.now)) spec.several) }
+    ensures { IfOk result (λ found. picks.found_view found ≡ spec.if_nothing (spec.pick (picks.answers asked.Both) owner.now (declaration_view declaration.now) (at_places (map dep_view deps.now) places.now)) spec.several) }
 {
-    match pick(alloc, Asked::Both, owner, declaration, deps)? {
+    match pick(alloc, Asked::Both, owner, declaration, deps, places)? {
         Found::Nothing => Ok(Found::Several),
         narrowed => Ok(narrowed),
     }
 }
 
+/// Returns what the declaration of the package `owner` leads to among those of `deps` at `places`. The only error is out of memory.
+fn choice_at<'p, 'v>(
+    alloc: Global,
+    owner: &str,
+    declaration: &Declaration<'_>,
+    deps: &[Dep<'p, 'v>],
+    places: &[usize],
+) -> Result<Found<'p, 'v>, AllocError>
+    ensures { IfOk result (λ found. picks.found_view found ≡ spec.choice owner.now (declaration_view declaration.now) (at_places (map dep_view deps.now) places.now)) }
+{
+    match pick(alloc, Asked::Use, owner, declaration, deps, places)? {
+        Found::One(package) => Ok(Found::One(package)),
+        Found::Nothing => {
+            if declaration.is_optional {
+                pick(alloc, Asked::Version, owner, declaration, deps, places)
+            } else {
+                Ok(Found::Nothing)
+            }
+        }
+        Found::Several => match pick(alloc, Asked::Name, owner, declaration, deps, places)? {
+            Found::One(package) => Ok(Found::One(package)),
+            _ => by_requirement(alloc, owner, declaration, deps, places),
+        },
+    }
+}
+
 /// What the declaration of the package `owner` leads to: the package that is used for it. If several are, the declared name in code
-/// decides, and then the requirement; if none is, the requirement decides for an optional dependency alone.
+/// decides, and then the requirement; if none is, the requirement decides for an optional dependency alone. `names` has the places of
+/// `deps`, as `names_of` returns them. The only error is out of memory.
 pub fn choice<'p, 'v>(
     alloc: Global,
     owner: &str,
     declaration: &Declaration<'_>,
     deps: &[Dep<'p, 'v>],
+    names: &Names<'_>,
 ) -> Result<Found<'p, 'v>, AllocError>
+    requires { HasNames names.now (map dep_view deps.now) }
     ensures { IfOk result (λ found. picks.found_view found ≡ spec.choice owner.now (declaration_view declaration.now) (map dep_view deps.now)) }
 {
-    match pick(alloc, Asked::Use, owner, declaration, deps)? {
-        Found::One(package) => Ok(Found::One(package)),
-        Found::Nothing => {
-            if declaration.is_optional {
-                pick(alloc, Asked::Version, owner, declaration, deps)
-            } else {
-                Ok(Found::Nothing)
-            }
-        }
-        Found::Several => match pick(alloc, Asked::Name, owner, declaration, deps)? {
-            Found::One(package) => Ok(Found::One(package)),
-            _ => by_requirement(alloc, owner, declaration, deps),
-        },
+    match names.get(declaration.name) {
+        Some(places) => choice_at(alloc, owner, declaration, deps, places),
+        None => Ok(Found::Nothing),
     }
 }
 
@@ -320,10 +314,12 @@ fn target_of<'p, 'v>(
     id: &str,
     declaration: &Declaration<'_>,
     deps: &[Dep<'p, 'v>],
+    names: &Names<'_>,
 ) -> Result<Option<&'p Package<'v>>, DocumentFault>
+    requires { HasNames names.now (map dep_view deps.now) }
     ensures { Gives (λ o. option_map (λ p. package_view p.now) o) result (spec.target_of id.now (declaration_view declaration.now) (map dep_view deps.now)) }
 {
-    match choice(alloc, id, declaration, deps)? {
+    match choice(alloc, id, declaration, deps, names)? {
         Found::Nothing => Ok(None),
         Found::One(target) => Ok(Some(target)),
         Found::Several => Err(ambiguous(alloc, id, declaration.name)?),
@@ -357,9 +353,10 @@ pub fn dependencies_of<'p, 'v>(
 ) -> Result<Vec<Dependency<'p, 'v>>, DocumentFault>
     ensures { Gives (λ ds. map dependency_view ds.items) result (spec.dependencies_of (package_view «package».now) (map dep_view deps.now)) }
 {
+    let names = names_of(alloc, deps)?;
     let mut dependencies = Vec::new(alloc);
     for declaration in &package.declarations {
-        let target = target_of(alloc, package.id, declaration, deps)?;
+        let target = target_of(alloc, package.id, declaration, deps, &names)?;
         push_led(&mut dependencies, declaration, target)?;
     }
     Ok(dependencies)

@@ -6,9 +6,11 @@ ghost use Rattle.workspace_documents.specs.Leads as spec;
 ghost use Rattle.workspace_documents.specs.Rules.{IsDescribed};
 ghost use Rattle.workspace_documents.specs.Views.{declaration_view, dep_view, node_view, package_view, entries_view};
 ghost use Rattle.workspace_documents.specs.LeadViews.{lead_view, leads_view, links_view, described_view};
+ghost use Rattle.workspace_documents.specs.Names.{HasNames};
 ghost use Rattle.workspace_documents.specs.Nodes.{no_node};
 
 use crate::dependencies::{Found, ambiguous, choice};
+use crate::names::{Names, names_of};
 use crate::nodes::{Dep, Node, Nodes, members_in, node_at, package_at, resolve_in, resolved_in};
 use crate::packages::{Declaration, Package, Packages, packages_of};
 use cargo_json::{DocumentFault, Place, optional_text_in, parts_of};
@@ -52,11 +54,13 @@ fn lead_of<'v>(
     alloc: Global,
     id: &str,
     deps: &[Dep<'_, 'v>],
+    names: &Names<'_>,
     declaration: &Declaration<'_>,
 ) -> Result<Option<&'v str>, DocumentFault>
+    requires { HasNames names.now (map dep_view deps.now) }
     ensures { Gives lead_view result (spec.lead_in id.now (map dep_view deps.now) (declaration_view declaration.now)) }
 {
-    match choice(alloc, id, declaration, deps)? {
+    match choice(alloc, id, declaration, deps, names)? {
         Found::Nothing => Ok(None),
         Found::One(target) => Ok(Some(target.id)),
         Found::Several => {
@@ -77,9 +81,10 @@ fn leads_of<'v>(
 ) -> Result<Vec<Option<&'v str>>, DocumentFault>
     ensures { Gives (λ leads. map lead_view leads.items) result (spec.leads_in «package».now.id.now (map dep_view deps.now) (map declaration_view «package».now.declarations.items)) }
 {
+    let names = names_of(alloc, deps)?;
     let mut leads = Vec::with_capacity(alloc, package.declarations.len())?;
     for declaration in &package.declarations {
-        leads.push(lead_of(alloc, package.id, deps, declaration)?)?;
+        leads.push(lead_of(alloc, package.id, deps, &names, declaration)?)?;
     }
     Ok(leads)
 }

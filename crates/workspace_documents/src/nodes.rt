@@ -7,12 +7,12 @@ ghost use Rattle.cargo_json.specs.Faults.{Text, Gives, refusal_of};
 ghost use Rattle.cargo_json.specs.Faults as fault;
 ghost use Rattle.workspace_documents.specs.Lists.{each, each_by_id};
 ghost use Rattle.workspace_documents.specs.Nodes as spec;
-ghost use Rattle.workspace_documents.specs.Packages.{use_in};
-ghost use Rattle.workspace_documents.specs.Views.{text_view, use_view, dep_view, node_view, resolved_view, package_view, entries_view};
+ghost use Rattle.workspace_documents.specs.Views.{text_view, dep_view, node_view, resolved_view, package_view, entries_view};
 ghost use Rattle.cargo_json.specs.declared.fault.Place.TheVariants as at;
 
-use crate::packages::{Package, Packages, Use, use_of};
+use crate::packages::{Package, Packages};
 use crate::targets::texts_at;
+use crate::uses::{Uses, uses_of};
 use cargo_json::{DocumentFault, Place, list_in, text_in, texts_in};
 use json::Value;
 use std::alloc::{AllocError, Global};
@@ -23,7 +23,8 @@ use std::collections::BTreeMap;
 pub struct Dep<'p, 'v> {
     pub extern_name: &'v str,
     pub target: &'p Package<'v>,
-    pub uses: Vec<Use<'v>>,
+    /// The kinds and platforms for which it is used.
+    pub uses: Uses<'v>,
 }
 
 /// The node of one package in Cargo's resolution.
@@ -88,22 +89,6 @@ pub(crate) fn package_at<'p, 'v>(
         Some(target) => Ok(target),
         None => Err(no_package(alloc, place, name, id)?),
     }
-}
-
-/// The kinds and platforms for which a dependency is used.
-fn uses_of<'v>(
-    alloc: Global,
-    objects: &Vec<Value<'v>>,
-    node: usize,
-    dep: usize,
-) -> Result<Vec<Use<'v>>, DocumentFault>
-    ensures { Gives (λ us. map use_view us.items) result (each (λ k. use_in (at.DepKind node dep k)) 0 (items_view objects.now.items)) }
-{
-    let mut uses = Vec::with_capacity(alloc, objects.len())?;
-    for (kind, object) in objects.iter().enumerate() {
-        uses.push(use_of(object, Place::DepKind { node, dep, kind })?)?;
-    }
-    Ok(uses)
 }
 
 /// Reads the used package `object` at place `dep` of `node`. Returns its first fault, or `NoPackage` if its id isn't in
