@@ -11,10 +11,10 @@ use Rattle.platform_specs.specs.Grammar.{IsSpecText}
 use Rattle.platform_specs.specs.Truth.{truth_of}
 use Rattle.platform_specs.proofs.SpecTexts.{one_spec}
 use Rattle.feature_core.proofs.AddsLemmas.{Contains-first, Contains-later, Contains-cases, Contains-none}
-use Rattle.guppy_features.specs.platforms.HeldSpecs.{Holds, AreHeld}
-use Rattle.guppy_features.specs.platforms.SpecFaults.{AllSpell, IsFaultAt, IsFaultOf}
-use Rattle.guppy_features.specs.declared.platforms.fault.PlatformFault.{PlatformFault}
-use Rattle.guppy_features.specs.declared.platforms.fault.PlatformFault.TheVariants.{Malformed, Memory}
+use Rattle.guppy_features.specs.graph_platforms.HeldSpecs.{Holds, AreHeld}
+use Rattle.guppy_features.specs.graph_platforms.SpecFaults.{AllSpell, IsFaultAt, IsFaultOf}
+use Rattle.guppy_features.specs.declared.graph_platforms.fault.PlatformFault.{PlatformFault}
+use Rattle.guppy_features.specs.declared.graph_platforms.fault.PlatformFault.TheVariants.{Malformed, Memory}
 
 -- the text, if it holds
 abbrev pub one_held : Bool → Text → List Text

@@ -24,7 +24,7 @@ use Rattle.feature_core.specs.Edges.{facts_of, weak_facts}
 use Rattle.feature_core.proofs.AddsLemmas.{Contains-first, Contains-later, Contains-cases, Contains-none, element_at_place}
 use Rattle.feature_core.proofs.PushLemmas.{from_filter, from_map}
 use Rattle.feature_graph.specs.LinkValues.{status_for}
-use Rattle.guppy_features.specs.platforms.DeclaredSpecs.{link_specs, declared_specs}
+use Rattle.guppy_features.specs.graph_platforms.DeclaredSpecs.{link_specs, declared_specs}
 use Rattle.guppy_features.proofs.Members.{text_any, from_firsts, from_some, from_flat_map, into_flat_map, into_filter_map}
 
 -- the specs of a status

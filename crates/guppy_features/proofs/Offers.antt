@@ -19,9 +19,9 @@ use Rattle.feature_graph.specs.Values.{Graph, Query}
 use Rattle.feature_graph.specs.Visits.{offered, query_content}
 use Rattle.guppy_features.specs.Platforms.{holds_where, is_for_platform, is_platform_link, platform_offers}
 use Rattle.platform_specs.specs.Expressions.{Target}
-use Rattle.guppy_features.specs.platforms.DeclaredSpecs.{declared_specs, spec_texts}
-use Rattle.guppy_features.specs.platforms.HeldSpecs.{AreHeld}
-use Rattle.guppy_features.specs.platforms.PlatformLinks.{HoldsFor, IsLinkFor, AreOffersFor, IsOnFor}
+use Rattle.guppy_features.specs.graph_platforms.DeclaredSpecs.{declared_specs, spec_texts}
+use Rattle.guppy_features.specs.graph_platforms.HeldSpecs.{AreHeld}
+use Rattle.guppy_features.specs.graph_platforms.PlatformLinks.{HoldsFor, IsLinkFor, AreOffersFor, IsOnFor}
 use Rattle.guppy_features.proofs.Held.{held_from, held_into}
 use Rattle.guppy_features.proofs.LinkSpecs.{status_specs, built_declared}
 use Rattle.guppy_features.proofs.Members.{any_member, member_any, text_any, any_text, firsts_any}

@@ -3,7 +3,7 @@ pub mod ListedFilters
 pub mod Platforms
 pub mod PlatformViews
 -- the definitions in the contracts, by crate
-pub mod platforms
+pub mod graph_platforms
 pub use Rattle.digraphs.specs as digraphs
 pub use Rattle.digraph_orders.specs as digraph_orders
 pub use Rattle.guppy_support.specs as guppy_support

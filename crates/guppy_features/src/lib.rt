@@ -3,9 +3,9 @@
 //! contracts.
 #![tactic(auto)]
 
+pub mod graph_platforms;
 mod listed_filters;
 mod platform_visitor;
-pub mod platforms;
 
 pub use digraph_orders::Order;
 pub use digraphs::{Digraph, DigraphError, Edge, EdgeColumns, IxBitSet, Ones};

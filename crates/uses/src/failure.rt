@@ -1,7 +1,7 @@
 //! The error of an example.
 use byte_devices::ReadError;
 use guppy_features::Error;
-use guppy_features::platforms::PlatformFault;
+use guppy_features::graph_platforms::PlatformFault;
 use platform_specs::CfgFault;
 use row_files::RowFileError;
 use std::alloc::{AllocError, AllocFailed};

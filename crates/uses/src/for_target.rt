@@ -3,7 +3,7 @@ use crate::failure::Failure;
 use crate::out::Out;
 use crate::workspace::selected;
 use byte_devices::{FromReader, read_all};
-use guppy_features::platforms::{PlatformFault, held_specs, resolve_for};
+use guppy_features::graph_platforms::{PlatformFault, held_specs, resolve_for};
 use guppy_features::{
     DependencyKind, Explained, FeatureGraph, FeatureGraphData, FeatureGraphExt, PackageGraph,
 };

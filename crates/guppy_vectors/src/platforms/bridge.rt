@@ -2,7 +2,7 @@
 use crate::platforms::Start;
 use crate::shared::{Failure, Given, all_of, halves, ids_of, kinds_of};
 use crate::surface::tell_counted;
-use guppy_features::platforms::{PlatformFault, held_specs, resolve_for};
+use guppy_features::graph_platforms::{PlatformFault, held_specs, resolve_for};
 use guppy_features::{DependencyKind, Error, FeatureId, FeatureQuery};
 
 /// Writes the first malformed spec.
