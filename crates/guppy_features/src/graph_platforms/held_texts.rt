@@ -8,8 +8,8 @@ ghost use Rattle.guppy_features.specs.graph_platforms.DeclaredSpecs.{spec_texts}
 ghost use Rattle.guppy_features.specs.graph_platforms.HeldSpecs.{AreHeld};
 ghost use Rattle.guppy_features.specs.graph_platforms.SpecFaults.{IsFaultAt, IsFaultOf};
 
-use crate::platforms::fault::PlatformFault;
-use crate::platforms::spec_texts::declared_specs;
+use crate::graph_platforms::fault::PlatformFault;
+use crate::graph_platforms::spec_texts::declared_specs;
 use guppy_packages::PackageGraph;
 use platform_specs::{PlatformSpec, SpecFault, TargetCfg};
 use std::alloc::Global;

@@ -9,8 +9,8 @@ ghost use Rattle.guppy_features.specs.graph_platforms.DeclaredSpecs.{spec_texts}
 ghost use Rattle.guppy_features.specs.graph_platforms.PlatformLinks.{IsOnFor};
 ghost use Rattle.guppy_features.specs.graph_platforms.SpecFaults.{IsFaultOf};
 
-use crate::platforms::fault::PlatformFault;
-use crate::platforms::held_texts::held_specs;
+use crate::graph_platforms::fault::PlatformFault;
+use crate::graph_platforms::held_texts::held_specs;
 use crate::{DependencyKind, Explained, FeatureQuery, PlatformVisitor};
 use platform_specs::TargetCfg;
 use std::alloc::Global;
