@@ -1,0 +1,1 @@
+74 passed, 0 failed

@@ -1,0 +1,1 @@
+1981 passed, 0 failed

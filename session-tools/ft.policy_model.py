@@ -1,0 +1,1 @@
+97 passed, 0 failed

@@ -1,0 +1,1 @@
+677 passed, 0 failed

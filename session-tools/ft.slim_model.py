@@ -1,0 +1,1 @@
+40 passed, 0 failed
