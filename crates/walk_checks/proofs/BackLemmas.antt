@@ -1,7 +1,7 @@
 -- The steps on which a node rests.
-use Rattle.std.proofs.Common.{◌≡◌, ℕ, zero, suc, ◌+◌, ◌<◌, ◌≤◌, Bool, true, false, ◌||◌, ◌&&◌, ◌⊎◌, List, [], ◌∷◌, ◌++◌, Option, Some, None, length, take, drop, refl, sym, ◌∙◌, ap, subst, inl, inr, arith, drop-cons}
-use Rattle.std.specs.Prelude.{IsTrue, IsFalse, slice_get, slice_index_or, filter, reverse, replicate, slice_set, ◌==◌, ◌↔◌}
-use Rattle.std.proofs.lemmas.Bool.{eqb-true, eq-eqb, cases_eq}
+use Rattle.std.proofs.Common.{◌≡◌, ℕ, zero, suc, ◌+◌, ◌<◌, ◌≤◌, Bool, true, false, ◌&&◌, ◌⊎◌, List, [], ◌∷◌, ◌++◌, Option, Some, None, length, take, drop, refl, sym, ◌∙◌, ap, subst, inl, inr, arith, drop-cons}
+use Rattle.std.specs.Prelude.{IsTrue, IsFalse, slice_get, slice_index_or, filter, reverse, ◌==◌, ◌↔◌}
+use Rattle.std.proofs.lemmas.Bool.{eqb-true, cases_eq}
 use Rattle.std.proofs.lemmas.List.{append-nil, reverse-append, take_all, drop_all}
 use Rattle.std.proofs.lemmas.List.Elements.{filter-append}
 use Rattle.std.proofs.lemmas.Option.{slice_get_within, slice_get-get_or}
@@ -15,7 +15,7 @@ use Rattle.walk_engine.specs.Explanations.{IsReason, IsExplanation, nodes_of}
 use Rattle.walk_checks.specs.Whys.{Leans, IsSupported, IsWhy}
 use Rattle.walk_checks.specs.inner.Backwards.{IsBegun, IsKept, IsBack}
 use Rattle.walk_checks.proofs.Bools.{decide, clash, or_cases, or_left, or_right, and_both, and_intro, not_true}
-use Rattle.walk_checks.proofs.Numbers.{take_snoc, take_past, has_within, marked_is}
+use Rattle.walk_checks.proofs.Numbers.{take_snoc, take_past, has_within}
 use Rattle.walk_checks.proofs.Steps.{explained_none, explained_snoc, explained_at, take_nodes, reason_node}
 
 -- Whether the node of the step is in the set.
@@ -40,7 +40,7 @@ filter_same S T (s ∷ steps) f =
     elim (decide (S s.node)) [ inl t ↦ rw (t, f 0 s refl ∙ t) (ap (λ xs. s ∷ xs) rest) | inr n ↦ rw (n, f 0 s refl ∙ n) rest ]
 
 -- A reason leans only on nodes that are before it.
-leans_before : (c : Content) (I : ℕ → Bool) (A : ℕ → Half → Bool) (before : List ℕ) (n : ℕ) (r : StepReason) (m : ℕ) → IsReason c I A before n r → Leans c r m → IsTrue (is_in before m)
+pub leans_before : (c : Content) (I : ℕ → Bool) (A : ℕ → Half → Bool) (before : List ℕ) (n : ℕ) (r : StepReason) (m : ℕ) → IsReason c I A before n r → Leans c r m → IsTrue (is_in before m)
 leans_before c I A before n Initial m reason lean = absurd lean
 leans_before c I A before n (Edge e) m (w, is, ask, far, start) (v, isv, at) =
     let same : w ≡ v = (let r : Some w ≡ Some v = sym is ∙ isv in cc) in
@@ -100,7 +100,7 @@ slice_get-drop [] (suc k) j x h = absurd (cc)
 slice_get-drop (y ∷ xs) (suc k) j x h = let e : suc k + j ≡ suc (k + j) = omega arith in rw e (slice_get-drop xs k j x h)
 
 -- A member of a prefix is a member of each longer prefix.
-first_more : (xs : List ℕ) (p j n : ℕ) → p ≤ j → IsTrue (is_in (take p xs) n) → IsTrue (is_in (take j xs) n)
+pub first_more : (xs : List ℕ) (p j n : ℕ) → p ≤ j → IsTrue (is_in (take p xs) n) → IsTrue (is_in (take j xs) n)
 first_more xs zero j n l t = absurd (clash t refl)
 first_more [] (suc p) j n l t = absurd (clash t refl)
 first_more (x ∷ xs) (suc p) zero n l t = absurd (omega arith)
@@ -159,11 +159,6 @@ back_skip c steps node k p d N kept next inside out back =
 begun_more : (node : ℕ) (N N' : ℕ → Bool) (kept : List Step) (s : Step) → IsTrue (N s.node) → IsBegun node N kept → IsBegun node N' (kept ++ s ∷ [])
 begun_more node N N' [] s t begun = begun s.node t
 begun_more node N N' (x ∷ kept) s t begun = begun
-
--- The invariant depends only on the values.
-pub back_moved : (c : Content) (steps : List Step) (node p q : ℕ) (N M : List Bool) (kept more : List Step) → p ≡ q → M ≡ N → more ≡ kept → IsBack c steps node p (has N) kept → IsBack c steps node q (has M) more
-back_moved c steps node p q N M kept more same needed listed back =
-    subst (λ (i : ℕ). IsBack c steps node i (has M) more) same (subst (λ (S : List Bool). IsBack c steps node p (has S) more) (sym needed) (subst (λ (xs : List Step). IsBack c steps node p (has N) xs) (sym listed) back))
 
 -- Keeping a needed step, and needing the nodes on which it leans, keeps the invariant.
 pub back_keep : (c : Content) (steps : List Step) (node k p : ℕ) (d : Step) (N N' : ℕ → Bool) (kept : List Step) → k ≡ p + 1 → p < length steps → IsTrue (N (slice_index_or steps p d).node) → ((n : ℕ) → IsTrue (N' n) ↔ (IsTrue (N n) ⊎ Leans c (slice_index_or steps p d).reason n)) → IsBack c steps node k N kept → IsBack c steps node p N' (kept ++ slice_index_or steps p d ∷ [])
@@ -246,14 +241,3 @@ back_kept c I A steps node N (s ∷ kept) full ok back = back_why c I A steps no
 pub back_empty : (c : Content) (I : ℕ → Bool) (A : ℕ → Half → Bool) (steps : List Step) (node : ℕ) (N : ℕ → Bool) (kept : List Step) → length kept ≡ 0 → IsExplanation c I A steps → IsBack c steps node 0 N kept → IsFalse (is_in (nodes_of steps) node)
 back_empty c I A steps node N [] empty ok back = back_unlisted c I A steps node N ok back
 back_empty c I A steps node N (s ∷ kept) empty ok back = absurd (omega arith)
-
-blank : (size n : ℕ) → has (replicate size false) n ≡ false
-blank zero n = refl
-blank (suc size) zero = refl
-blank (suc size) (suc n) = blank size n
-
--- The set has only `node`.
-pub node_alone : (set new : List Bool) (size node : ℕ) → set ≡ replicate size false → node < length set → new ≡ slice_set set node true → (n : ℕ) → IsTrue (has new n) ↔ (n ≡ node)
-node_alone set new size node is inside put n =
-    let same : has new n ≡ (node == n) = ap (λ (s : List Bool). has s n) put ∙ (marked_is set node n inside ∙ ap (λ (b : Bool). b || (node == n)) (ap (λ (s : List Bool). has s n) is ∙ blank size n)) in
-    (λ t. sym (eqb-true node n (sym same ∙ t)), λ e. same ∙ eq-eqb node n (sym e))

@@ -5,3 +5,5 @@ pub mod Exactness
 pub mod Members
 pub mod Runs
 pub mod BackLemmas
+pub mod PlaceLemmas
+pub mod WaitLemmas

@@ -5,11 +5,13 @@
 mod exact;
 mod explained;
 pub mod laws;
+mod places;
 mod refusals;
 mod resting;
 mod table;
 
 pub use exact::check_exact_steps;
 pub use explained::check_steps;
-pub use resting::why;
+pub use places::StepPlaces;
+pub use resting::{why, why_by_places};
 pub use table::{EdgeTable, TableEdge};
