@@ -1,5 +1,6 @@
 pub mod Indexes
 pub mod Joined
+pub mod LeadingWays
 pub mod LinksSpotLemmas
 pub mod Listed
 pub mod NodeLemmas

@@ -1,9 +1,10 @@
 -- The reasons by ways, and that their numbers are those of nodes and ways.
-use Rattle.std.proofs.Common.{◌≡◌, ◌∙◌, ℕ, zero, suc, ◌+◌, ◌<◌, Bool, true, false, ◌&&◌, ◌||◌, List, [], ◌∷◌, ◌++◌, Some, drop, length, append_assoc, refl, ap, sym, subst, arith}
-use Rattle.std.specs.Prelude.{All, IsTrue, not, slice_get, ◌==◌, if◌then◌else◌}
+use Rattle.std.proofs.Common.{◌≡◌, ◌∙◌, ℕ, suc, ◌+◌, ◌<◌, Bool, true, false, ◌&&◌, ◌||◌, List, [], ◌∷◌, Some, None, length, refl, ap, sym, subst, arith}
+use Rattle.std.specs.Prelude.{All, IsTrue, nat_lt, not, slice_get, ◌==◌, if◌then◌else◌}
 use Rattle.std.specs.List.{AllByRecursion, AllZip}
 use Rattle.std.proofs.lemmas.List.Elements.{All-append, All-from_recursion}
-use Rattle.guppy_packages.specs.declared.direction.DependencyDirection.TheVariants.{Forward}
+use Rattle.std.proofs.lemmas.Option.{none-some}
+use Rattle.guppy_packages.specs.declared.direction.DependencyDirection.TheVariants.{Forward, Reverse}
 use Rattle.digraphs.specs.Bits.{has}
 use Rattle.feature_core.specs.Built.{Built, IsBuilt}
 use Rattle.feature_core.specs.Nodes.{node_packages}
@@ -11,9 +12,12 @@ use Rattle.feature_core.specs.Offers.{content_of}
 use Rattle.feature_core.specs.Ways.{Reading}
 use Rattle.cargo_plans.specs.plan_starts.Lists.{joined_from}
 use Rattle.cargo_plans.specs.plan_starts.PackageVisits.{PairVisit}
-use Rattle.plan_starts.specs.step_visits.Visits.{Visit}
+use Rattle.cargo_plans.specs.plan_rows.Steps.{side_base}
+use Rattle.plan_starts.specs.step_visits.Visits.{Visit, node_at}
+use Rattle.plan_starts.proofs.Places.{node_within}
 use Rattle.walk_checks.specs.Tables.{IsEdge}
 use Rattle.walk_checks.specs.declared.table.TableEdge.{TableEdge}
+use Rattle.walk_engine.specs.Laws.{AreReverse}
 use Rattle.walk_engine.specs.Walks.{Content, EndsAreNodes, IsWay, Way, is_gated}
 use Rattle.walk_engine.specs.declared.walks.Ask.{Ask}
 use Rattle.walk_engine.specs.declared.walks.Ask.TheVariants as asks
@@ -22,7 +26,8 @@ use Rattle.walk_engine.specs.declared.walks.Half.TheVariants as half
 use Rattle.walk_engine.specs.declared.walks.StepReason.{StepReason}
 use Rattle.walk_engine.specs.declared.walks.StepReason.TheVariants.{Offer}
 use Rattle.plan_whys.specs.Reasons.{AreReasonsAt, all_reasons, reasons_by, reasons_of, weak_reasons}
-use Rattle.plan_whys.specs.Steps.{IsReasonOf, ReasonText}
+use Rattle.plan_whys.specs.NodeWhys.{node_of}
+use Rattle.plan_whys.specs.Steps.{IsReasonOf, ReasonText, SpotText}
 use Rattle.plan_whys.specs.inner.Nodes.{IsReasonInside}
 use Rattle.plan_whys.proofs.NodeLemmas.{gate_is}
 
@@ -73,22 +78,6 @@ module _ (c : Content) (ends : EndsAreNodes c) where
   pub all_inside : (M : ℕ → Bool) (n : ℕ) → All (IsReasonInside c.nodes c) (all_reasons c M n)
   all_inside M n = from_inside M n 0 c.ways (λ i w at. subst (λ e. IsWay c e w) (omega arith) at)
 
-drop_at : (ways : List Way) (k : ℕ) → k < length ways → (w : Way) × (slice_get ways k ≡ Some w) × (drop k ways ≡ w ∷ drop (k + 1) ways)
-drop_at [] k within = absurd (omega (arith, within))
-drop_at (x ∷ ways) zero within = (x, refl, refl)
-drop_at (x ∷ ways) (suc k) within =
-    let rest = drop_at ways k (omega (arith, within)) in
-    let next : suc (k + 1) ≡ suc k + 1 = omega arith in
-    (rest.0, rest.1, rest.2 ∙ ap (λ m. rest.0 ∷ drop m (x ∷ ways)) next)
-
--- the list by the ways before `k`, and that by the others
-pub way_step : (f : ℕ → Way → List StepReason) (ways : List Way) (k : ℕ) (old new : List StepReason) → k < length ways → ((w : Way) → slice_get ways k ≡ Some w → new ≡ old ++ f k w)
-    → new ++ joined_from f (k + 1) (drop (k + 1) ways) ≡ old ++ joined_from f k (drop k ways)
-way_step f ways k old new within more =
-    let at = drop_at ways k within in
-    let rest = joined_from f (k + 1) (drop (k + 1) ways) in
-    ap (λ l. l ++ rest) (more at.0 at.1) ∙ append_assoc old (f k at.0) rest ∙ ap (λ l. old ++ joined_from f k l) (sym at.2)
-
 -- the reasons by a table of a visit's edges
 pub reasons_inside : (on : PairVisit) (v : Visit) (b : Built) (table : Reading) (M : ℕ → Bool) (n : ℕ) (found taken : List StepReason) → v ≡ on.visit → IsBuilt v.tables b → EndsAreNodes (content_of Forward b)
     → table ≡ record { holds = content_of Forward b; reads = 0 } → found ≡ all_reasons table.holds M n → taken ≡ found → All (IsReasonInside (length (node_packages on.visit.tables)) table.holds) taken
@@ -111,3 +100,24 @@ reasons_here on v b table members n found taken shown visit is same marks all ta
       (subst (λ (ms : List Bool). AllZip (IsReasonOf on table.holds) (all_reasons table.holds (has ms) n) shown) (marks ∙ ap (λ (u : Visit). u.members) visit)
       (subst (λ l. AllZip (IsReasonOf on table.holds) l shown) (taken_is ∙ all) zip));
 }
+
+-- the node of a spot is one of the nodes
+pub spot_within : (on : PairVisit) (spot : SpotText) (n : ℕ) → node_of on spot ≡ Some n → n < length (node_packages on.visit.tables)
+spot_within on spot n h = go (nat_lt spot.number on.count) (side_base on.count spot.side + spot.number) h
+  where
+    go : (inside : Bool) (k : ℕ) → (if inside then node_at on.visit.tables k spot.label else None) ≡ Some n → n < length (node_packages on.visit.tables)
+    go true k is = node_within on.visit.tables (node_packages on.visit.tables) k n spot.label refl (sym is)
+    go false k is = absurd (none-some n is)
+
+-- a node of the visit is one of the nodes of a table of its edges
+pub node_of_table : (on : PairVisit) (v : Visit) (b : Built) (back : Reading) (n : ℕ) → v ≡ on.visit → IsBuilt v.tables b → back ≡ record { holds = content_of Reverse b; reads = 0 } → n < length (node_packages on.visit.tables)
+    → n < back.holds.nodes
+node_of_table on v b back n visit is same below =
+    subst (λ (r : Reading). n < r.holds.nodes) (sym same)
+    (subst (λ m. n < m) (ap length (sym is.packages)) (subst (λ (u : Visit). n < length (node_packages u.tables)) (sym visit) below))
+
+-- the tables of the two directions
+pub tables_reverse : (b : Built) (table back : Reading) → table ≡ record { holds = content_of Forward b; reads = 0 } → back ≡ record { holds = content_of Reverse b; reads = 0 } → AreReverse (content_of Forward b) (content_of Reverse b)
+    → AreReverse table.holds back.holds
+tables_reverse b table back forward reverse are =
+    subst (λ (r : Reading). AreReverse r.holds back.holds) (sym forward) (subst (λ (r : Reading). AreReverse (content_of Forward b) r.holds) (sym reverse) are)

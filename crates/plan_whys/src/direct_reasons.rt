@@ -1,11 +1,12 @@
 //! All reasons why a label is on.
-ghost use Rattle.std.specs.Prelude.{◌≡◌, ◌++◌, IfOk, OnOk, All, length, map};
+ghost use Rattle.std.specs.Prelude.{◌≡◌, ◌<◌, ◌++◌, IfOk, OnOk, All, length, map};
 ghost use Rattle.std.specs.List.{AllZip};
 ghost use Rattle.guppy_packages.specs.declared.direction.DependencyDirection.TheVariants.{Forward};
 ghost use Rattle.digraphs.specs.Bits.{has};
 ghost use Rattle.feature_core.specs.Nodes.{node_packages};
 ghost use Rattle.cargo_plans.specs.plan_steps.PlanViews.{plan_text};
 ghost use Rattle.walk_checks.specs.Tables.{IsEdge};
+ghost use Rattle.walk_engine.specs.Laws.{AreReverse};
 ghost use Rattle.walk_engine.specs.Walks.{IsWay, Way};
 ghost use Rattle.plan_whys.specs.Reasons as spec;
 ghost use Rattle.plan_whys.specs.Reasons.{AreReasons, AreReasonsAt, reasons_by, reasons_of, weak_reasons};
@@ -99,18 +100,25 @@ fn push_number(
     }
 }
 
-/// Returns the reasons by all edges of `table` that lead to `node` from one of `members`.
+/// Returns the reasons by all edges of `table` that lead to `node` from one of `members`. `back` has the same edges, followed in the
+/// other direction.
 fn all_reasons(
     alloc: Global,
     table: &Packed<'_>,
+    back: &Packed<'_>,
     members: &IxBitSet,
     node: usize,
 ) -> Result<Vec<StepReason>, AllocError>
+    requires node { node < back.now.holds.nodes }
+    requires reverse { AreReverse table.now.holds back.now.holds }
     ensures { IfOk result (λ found. found.items ≡ spec.all_reasons table.now.holds (has members.now) node) }
 {
     let mut found = Vec::new(alloc);
-    for number in 0..EdgeTable::edge_count(table) {
-        push_number(&mut found, table, members, node, number)?;
+    for place in 0..EdgeTable::edge_count(back) {
+        match back.edge_from(node, place) {
+            None => return Ok(found),
+            Some(number) => push_number(&mut found, table, members, node, number)?,
+        }
     }
     Ok(found)
 }
@@ -138,12 +146,15 @@ fn reasons_at<'p>(
     on: &'p PackageVisit,
     node: usize,
 ) -> Result<Vec<WhyReason<'p>>, AllocError>
+    requires { node < length (node_packages on.now.visit.tables) }
     ensures { IfOk result (λ shown. AreReasonsAt on.now node (map reason_text shown.items)) }
 {
     let visited = on.visited();
     content_of_graph(visited.packages());
-    let table = Packed::new(visited.built(), DependencyDirection::Forward);
-    let reasons = all_reasons(alloc, &table, visited.members(), node)?;
+    let built = visited.built();
+    let table = Packed::new(built, DependencyDirection::Forward);
+    let back = Packed::new(built, DependencyDirection::Reverse);
+    let reasons = all_reasons(alloc, &table, &back, visited.members(), node)?;
     let shown = reasons_by_spots(alloc, on, &table, &reasons)?;
     Ok(shown)
 }
