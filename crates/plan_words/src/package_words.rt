@@ -1,6 +1,6 @@
 //! The packages that words name.
 ghost use Rattle.std.specs.Prelude.{◌≡◌, IfOk, IsTrue, length, map, nat_lt};
-ghost use Rattle.std.specs.List.{list_all};
+ghost use Rattle.std.specs.List.{list_all, list_any};
 ghost use Rattle.cargo_workspaces.specs.Views.{package_text, texts};
 ghost use Rattle.cargo_workspaces.specs.WorkspaceView.{workspace_text};
 ghost use Rattle.plan_words.specs.PackageWords as spec;
@@ -274,6 +274,46 @@ fn selected_by_words<'s>(
     Ok(packages)
 }
 
+/// Returns whether `word` names `package`, or the package's name fits it as a pattern.
+fn excludes(package: &Package<'_>, word: &str) -> bool
+    ensures { result ≡ spec.excludes (package_text «package».now) word.now }
+{
+    word == package.id || is_named(word, package) || fits(word, package.name)
+}
+
+/// Returns whether one of `words` excludes `package`.
+fn is_excluded(package: &Package<'_>, words: &[&str]) -> bool
+    ensures { result ≡ list_any (spec.excludes (package_text «package».now)) (texts words.now) }
+{
+    for word in words {
+        if excludes(package, word) {
+            return true;
+        }
+    }
+    false
+}
+
+/// Returns the members of `workspace` that none of `words` excludes.
+#[tactic(auto, using(crate::proofs::Lists::list_all_more))]
+fn members_but(
+    alloc: Global,
+    workspace: &Workspace<'_>,
+    words: &[&str],
+) -> Result<Vec<usize>, AllocError>
+    ensures members { IfOk result (λ kept. kept.items ≡ spec.members_but (workspace_text workspace.now) (texts words.now)) }
+    ensures within { IfOk result (λ kept. IsTrue (list_all (λ p. nat_lt p (length (workspace_text workspace.now).packages)) kept.items)) }
+{
+    // (calls named facts() carry the invariant into the proof)
+    workspace.facts();
+    let mut kept = Vec::new(alloc);
+    for member in workspace.members() {
+        if !is_excluded(workspace.package(*member), words) {
+            kept.push(*member)?;
+        }
+    }
+    Ok(kept)
+}
+
 /// Returns `numbers`, those of the selected packages; NoPackages if there are none.
 fn some_of<'s>(alloc: Global, numbers: &[usize]) -> Result<Vec<usize>, WordFault<'s>>
     ensures { Gives (λ packages. packages.items) result (spec.some_of numbers.now) }
@@ -300,5 +340,9 @@ pub(crate) fn selected<'s>(
         PackageChoice::Default => some_of(alloc, workspace.default_members()),
         PackageChoice::Workspace => some_of(alloc, workspace.members()),
         PackageChoice::Named(words) => selected_by_words(alloc, workspace, words),
+        PackageChoice::AllBut(words) => {
+            let members = members_but(alloc, workspace, words)?;
+            some_of(alloc, &members)
+        }
     }
 }
