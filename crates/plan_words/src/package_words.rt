@@ -4,6 +4,7 @@ ghost use Rattle.std.specs.List.{list_all, list_any};
 ghost use Rattle.cargo_workspaces.specs.Views.{package_text, texts};
 ghost use Rattle.cargo_workspaces.specs.WorkspaceView.{workspace_text};
 ghost use Rattle.plan_words.specs.PackageWords as spec;
+ghost use Rattle.plan_words.specs.inner.Urls.{may_be_url};
 ghost use Rattle.plan_words.specs.Refusals.{Gives};
 ghost use Rattle.plan_words.specs.Selections.{choice_text};
 
@@ -142,11 +143,19 @@ fn fits_url(word: &str, package: &Package<'_>) -> bool
     }
 }
 
-/// Returns whether `word` names `package`: by its name, perhaps with a version, or by its URL.
-fn is_named(word: &str, package: &Package<'_>) -> bool
+/// Returns whether `word` contains a `#` or a `/`. A word without both is the URL of no package.
+fn may_be_url(word: &str) -> bool
+    ensures { result ≡ may_be_url word.now }
+{
+    word.contains('#') || word.contains('/')
+}
+
+/// Returns whether `word` names `package`: by its name, perhaps with a version, or by its URL. `has_marks` is whether `word` may be a URL.
+fn is_named(word: &str, has_marks: bool, package: &Package<'_>) -> bool
+    requires { has_marks ≡ may_be_url word.now }
     ensures { result ≡ spec.is_named word.now (package_text «package».now) }
 {
-    fits_name(word, package) || fits_url(word, package)
+    fits_name(word, package) || has_marks && fits_url(word, package)
 }
 
 /// Returns the numbers of the packages whose id is `word`.
@@ -174,9 +183,10 @@ fn packages_named(
 ) -> Result<Vec<usize>, AllocError>
     ensures { IfOk result (λ numbers. numbers.items ≡ spec.numbers_from (spec.is_named word.now) 0 (map package_text packages.now)) }
 {
+    let has_marks = may_be_url(word);
     let mut numbers = Vec::new(alloc);
     for (ix, package) in packages.iter().enumerate() {
-        if is_named(word, package) {
+        if is_named(word, has_marks, package) {
             numbers.push(ix)?;
         }
     }
