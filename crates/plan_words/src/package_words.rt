@@ -288,7 +288,7 @@ fn selected_by_words<'s>(
 fn excludes(package: &Package<'_>, word: &str) -> bool
     ensures { result ≡ spec.excludes (package_text «package».now) word.now }
 {
-    word == package.id || is_named(word, package) || fits(word, package.name)
+    word == package.id || is_named(word, may_be_url(word), package) || fits(word, package.name)
 }
 
 /// Returns whether one of `words` excludes `package`.
