@@ -1,5 +1,6 @@
 use Rattle.std.proofs.Common.{◌≡◌, ◌∙◌, ◌-◌, ap, subst, take, append-nil, [], ℕ, Option}
 use Rattle.feats_tree.specs.trees.Branches.{AreBranches}
+use Rattle.feats_tree.proofs.CutLemmas.{walk_cut}
 use Rattle.feats_tree.proofs.ReachLemmas.{have_all}
 use Rattle.feats_tree.proofs.WalkLemmas.{begun, ended, fewer, stepped}
 use Rattle.feats_tree.proofs.trees.trees.branches.Goals as goal
