@@ -1,7 +1,7 @@
 //! The branches of trees.
 ghost use Rattle.std.specs.Prelude.{◌≡◌, ◌++◌, ◌+◌, ℕ, List, map, None, IfOk, OnOk};
 ghost use Rattle.std.specs.List.{list_any};
-ghost use Rattle.feats_tree.specs.trees.Branches.{AreBranches, goes_below, is_cut as is_cut_by};
+ghost use Rattle.feats_tree.specs.trees.Branches.{AreBranches, goes_below, is_cut};
 ghost use Rattle.feats_tree.specs.trees.Reach.{HaveAll};
 ghost use Rattle.feats_tree.specs.trees.inner.Nodes.{is_hiding_at};
 ghost use Rattle.feats_tree.specs.trees.inner.Walks.{Takes, branch_at, shown_branch, waits_of};
@@ -83,7 +83,7 @@ fn show(
 }
 
 /// Returns true if the node of one of `branches` has links that weren't shown.
-fn is_cut(nodes: &[Node], branches: &[Branch]) -> bool
+fn is_any_hiding(nodes: &[Node], branches: &[Branch]) -> bool
     ensures { result ≡ list_any (λ b. is_hiding_at nodes.now b.node) branches.now }
 {
     for branch in branches {
@@ -106,7 +106,7 @@ pub fn branches(
 ) -> Result<Trees, AllocError>
     ensures branches { IfOk result (λ trees. AreBranches links.now roots.now limit trees.branches.items) }
     ensures all { IfOk result (λ trees. limit ≡ None → HaveAll links.now roots.now trees.branches.items) }
-    ensures cut { IfOk result (λ trees. trees.is_cut ≡ is_cut_by links.now limit trees.branches.items) }
+    ensures cut { IfOk result (λ trees. trees.is_cut ≡ is_cut links.now limit trees.branches.items) }
 {
     let mut nodes = nodes_of(alloc, links)?;
     let mut waiting = Vec::new(alloc);
@@ -116,7 +116,7 @@ pub fn branches(
         let branch = show(alloc, limit, &mut nodes, &mut waiting, next)?;
         shown.push(branch)?;
     }
-    let is_cut = is_cut(&nodes, &shown);
+    let is_cut = is_any_hiding(&nodes, &shown);
     Ok(Trees {
         branches: shown,
         is_cut,
