@@ -73,5 +73,6 @@ pub(crate) fn aliased<'v>(
     ensures { IfOk result (λ ids. spec.HasAliased ids dependencies.now) }
 {
     let names = last_names(alloc, dependencies)?;
-    miscalled(alloc, &names, dependencies)
+    let ids = miscalled(alloc, &names, dependencies)?;
+    Ok(ids)
 }

@@ -26,4 +26,4 @@ is_miscalled names q d = bytes_eq d.target.now.id.now q && not (is_called names 
 
 -- Each dependency that has another name has the id of its package among these.
 abbrev pub HasAliased : BTreeSet (Bor Text) → List Dependency → Type 0
-HasAliased ids ds = (i : ℕ) (d : Dependency) → i < length ds → d ≡ get_or ds i d → has_id ids d.target.now.id.now ≡ false → find (is_other_name (dependency_view d)) (map dependency_view ds) ≡ None
+HasAliased ids ds = (i : ℕ) (z : Dependency) → i < length ds → has_id ids (get_or ds i z).target.now.id.now ≡ false → find (is_other_name (dependency_view (get_or ds i z))) (map dependency_view ds) ≡ None
