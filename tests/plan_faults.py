@@ -133,7 +133,7 @@ def plan_faults(cases):
     spec = "write NAME, NAME@VERSION, an id, or a pattern of members' names with `*`"
     for word in ([], ['-F', 'no']):
         yield f'no selected package{"".join(word)}', cases['no-default'], word, (
-            'no package is selected: the workspace has no default members, or no members at all; select packages by -p or --workspace')
+            'no package is selected: the workspace has no default members, no members at all, or all are excluded; select packages by -p or --workspace')
     yield 'no package', command, ['-p', 'nobody'], f'no package of the document fits `nobody`: {spec}'
     yield 'the second word', command, ['-p', 'tool', '-p', 'tool@2'], f'no package of the document fits `tool@2`: {spec}'
     yield 'a pattern', command, ['-p', 'tool', '-p', 'x*'], f'no package of the document fits `x*`: {spec}'

@@ -3,4 +3,3 @@ pub mod PartLists
 pub mod Related
 pub mod ShownLists
 pub mod WhyLists
-pub mod Zips

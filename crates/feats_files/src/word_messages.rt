@@ -45,6 +45,10 @@ pub fn words_refused(alloc: Global, fault: WordsFault<'_>) -> Fault
             alloc,
             &["`--every-choice` is about all members of the workspace: leave -p out"],
         ),
+        WordsFault::ExcludeAlone => refused(
+            alloc,
+            &["`--exclude` leaves members out of all members: write --workspace too"],
+        ),
         WordsFault::Depth(word) => refused(
             alloc,
             &["`", word, "` isn't a depth: write a decimal number"],

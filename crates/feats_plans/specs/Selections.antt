@@ -1,7 +1,7 @@
 -- What arguments ask of a plan.
 use Rattle.std.specs.Prelude.{List, [], ◌∷◌, Bool, if◌then◌else◌}
 use Rattle.cargo_workspaces.specs.Workspaces.{Text}
-use Rattle.plan_words.specs.Selections.{ChoiceText, SelectionText, all_members, default_members, named}
+use Rattle.plan_words.specs.Selections.{ChoiceText, SelectionText, all_but, all_members, default_members, named}
 use Rattle.cargo_manifests.specs.declared.resolvers.resolver.Resolver.{Resolver}
 use Rattle.cargo_manifests.specs.resolvers.Resolvers.{is_split}
 use Rattle.feats_words.specs.Arguments.{ArgumentsText}
@@ -11,9 +11,13 @@ abbrev pub named_or_default : List Text → ChoiceText
 named_or_default [] = default_members
 named_or_default (word ∷ words) = named (word ∷ words)
 
--- `--workspace` selects all members, and else words of `-p` select packages.
+abbrev pub all_or_but : List Text → ChoiceText
+all_or_but [] = all_members
+all_or_but (word ∷ words) = all_but (word ∷ words)
+
+-- `--workspace` selects all members but those that `--exclude` leaves out, and else words of `-p` select packages.
 abbrev pub choice : ArgumentsText → ChoiceText
-choice a = if a.workspace then all_members else named_or_default a.packages
+choice a = if a.workspace then all_or_but a.exclude else named_or_default a.packages
 
 abbrev pub selection : ArgumentsText → Resolver → SelectionText
 selection a version = record {

@@ -30,7 +30,10 @@ fn choice<'s>(arguments: &'s CommandArguments<'_>) -> PackageChoice<'s>
     ensures { choice_text result ≡ spec.choice (arguments_text arguments.now) }
 {
     if arguments.workspace {
-        return PackageChoice::Workspace;
+        return match arguments.exclude.as_slice() {
+            [] => PackageChoice::Workspace,
+            words => PackageChoice::AllBut(words),
+        };
     }
     match arguments.packages.as_slice() {
         [] => PackageChoice::Default,

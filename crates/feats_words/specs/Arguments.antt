@@ -1,5 +1,5 @@
 -- The arguments of a command, parsed from the words of a request.
-use Rattle.std.specs.Prelude.{ℕ, List, [], ◌∷◌, Bool, true, Option, None, Some, Result, Ok, Err, flat_map, codes, ok_or, if◌then◌else◌}
+use Rattle.std.specs.Prelude.{ℕ, List, [], ◌∷◌, Bool, false, true, Option, None, Some, Result, Ok, Err, flat_map, codes, ok_or, if◌then◌else◌}
 use Rattle.std.specs.Str.{bytes_eq}
 use Rattle.std.specs.Option.{option_map_or}
 use Rattle.clap.specs.Words.{Text}
@@ -10,7 +10,7 @@ use Rattle.feats_words.specs.Depths.{depth}
 use Rattle.feats_words.specs.Edges.{edges}
 use Rattle.feats_words.specs.FeatureWords.{words_in}
 use Rattle.feats_words.specs.PlatformWords.{PlatformText, platform_word}
-use Rattle.feats_words.specs.Refusals.{Refusal, bad_platform, bad_resolver, two_resolvers, bad_format, graph_format, packages_of_every_choice, each, ◌>>=◌}
+use Rattle.feats_words.specs.Refusals.{Refusal, bad_platform, bad_resolver, two_resolvers, bad_format, graph_format, packages_of_every_choice, exclude_alone, each, ◌>>=◌}
 use Rattle.feats_words.specs.Requests.{QuestionText, RequestText, check, dot}
 use Rattle.feats_words.specs.declared.command_arguments.Format.{Format}
 use Rattle.feats_words.specs.declared.command_arguments.Format.TheVariants.{Text as text_format, Json as json_format}
@@ -29,6 +29,7 @@ pub record ArgumentsText : Type 0 where
   pub resolver : SourceText
   pub packages : List Text
   pub workspace : Bool
+  pub exclude : List Text
   pub features : List Text
   pub all_features : Bool
   pub no_default_features : Bool
@@ -75,6 +76,11 @@ abbrev pub all_members : QuestionText → List Text → Result (Unit {0}) Refusa
 all_members (check file true strict) (word ∷ words) = Err packages_of_every_choice
 all_members _ words = Ok tt
 
+-- Members are excluded from all members only.
+abbrev pub of_all_members : Bool → List Text → Result (Unit {0}) Refusal
+of_all_members false (word ∷ words) = Err exclude_alone
+of_all_members _ words = Ok tt
+
 abbrev pub arguments : RequestText → Result ArgumentsText Refusal
 arguments r =
     platform r.host >>= λ host.
@@ -84,6 +90,7 @@ arguments r =
     depth r.depth >>= λ limit.
     edges r.edges >>= λ nodes.
     all_members r.question r.packages >>= λ none.
+    of_all_members r.workspace r.exclude >>= λ all.
     Ok (record {
       question = r.question;
       metadata = r.metadata;
@@ -92,6 +99,7 @@ arguments r =
       resolver = resolver;
       packages = r.packages;
       workspace = r.workspace;
+      exclude = r.exclude;
       features = flat_map words_in r.features;
       all_features = r.all_features;
       no_default_features = r.no_default_features;

@@ -41,7 +41,7 @@ feature_rules = lettered_rule (codes "features") 70 ∷ flag_rule (codes "all-fe
 -- The options that select packages and features, and the form of the answer.
 abbrev pub selection_rules : List Rule
 selection_rules =
-    (lettered_rule (codes "package") 112 ∷ flag_rule (codes "workspace") ∷ []) ++ feature_rules
+    (lettered_rule (codes "package") 112 ∷ flag_rule (codes "workspace") ∷ repeated_rule (codes "exclude") ∷ []) ++ feature_rules
     ++ (flag_rule (codes "tests") ∷ option_rule (codes "format") ∷ [])
 
 -- A command about a document, with words of its own.

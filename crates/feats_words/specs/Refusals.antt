@@ -11,6 +11,7 @@ pub data Refusal : Type 0 where
   bad_format : Text → Refusal
   graph_format : Refusal
   packages_of_every_choice : Refusal
+  exclude_alone : Refusal
   bad_depth : Text → Refusal
   bad_edges : Text → Refusal
   out_of_memory : Refusal
@@ -22,6 +23,7 @@ refusal_of fault.TwoResolvers = two_resolvers
 refusal_of (fault.Format word) = bad_format word.now
 refusal_of fault.GraphFormat = graph_format
 refusal_of fault.PackagesOfEveryChoice = packages_of_every_choice
+refusal_of fault.ExcludeAlone = exclude_alone
 refusal_of (fault.Depth word) = bad_depth word.now
 refusal_of (fault.Edges word) = bad_edges word.now
 refusal_of fault.Memory = out_of_memory

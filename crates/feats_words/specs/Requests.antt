@@ -36,6 +36,7 @@ pub record RequestText : Type 0 where
   pub old_manifest : Option Text
   pub packages : List Text
   pub workspace : Bool
+  pub exclude : List Text
   pub features : List Text
   pub all_features : Bool
   pub no_default_features : Bool
@@ -90,6 +91,7 @@ asked question rows = record {
   old_manifest = value (codes "old-manifest") rows;
   packages = values (codes "package") rows;
   workspace = is_given (codes "workspace") rows;
+  exclude = values (codes "exclude") rows;
   features = values (codes "features") rows;
   all_features = is_given (codes "all-features") rows;
   no_default_features = is_given (codes "no-default-features") rows;

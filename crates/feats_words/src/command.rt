@@ -127,6 +127,15 @@ fn with_selection<'a>(alloc: Global, command: Made<'a>, hides_format: bool) -> M
         command,
         flag(alloc, "workspace", "Build all members of the workspace"),
     );
+    let command = with_arg(
+        command,
+        repeated(
+            alloc,
+            "exclude",
+            "SPEC",
+            "A member that --workspace leaves out: NAME, NAME@VERSION or an id, or members by a pattern as `a*`",
+        ),
+    );
     let command = with_features(alloc, command);
     let command = with_arg(command, flag(alloc, "tests", "Build the tests too"));
     with_arg(command, format(alloc, hides_format))

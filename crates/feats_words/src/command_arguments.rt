@@ -39,6 +39,8 @@ pub struct CommandArguments<'a> {
     pub resolver: ResolverSource<'a>,
     pub packages: Vec<&'a str>,
     pub workspace: bool,
+    /// The members that `workspace` leaves out.
+    pub exclude: Vec<&'a str>,
     /// The feature words, which are split already.
     pub features: Vec<&'a str>,
     pub all_features: bool,
@@ -62,6 +64,7 @@ impl Drop for CommandArguments<'_> {
             resolver: _resolver,
             packages: _packages,
             workspace: _workspace,
+            exclude: _exclude,
             features: _features,
             all_features: _all_features,
             no_default_features: _no_default_features,
@@ -157,8 +160,18 @@ fn all_members<'a>(question: Question<'_>, packages: &[&str]) -> Result<(), Word
     }
 }
 
+/// Returns `ExcludeAlone` if members are excluded, and not all members are selected.
+fn of_all_members<'a>(workspace: bool, exclude: &[&str]) -> Result<(), WordsFault<'a>>
+    ensures { Gives (λ u. u) result (spec.of_all_members workspace (texts exclude.now)) }
+{
+    match (workspace, exclude) {
+        (false, [_, ..]) => Err(WordsFault::ExcludeAlone),
+        _ => Ok(()),
+    }
+}
+
 /// Returns the arguments of a request. The error is the first word that can't be read: of the host, of the targets, of the resolver, of
-/// the format, of the depth, of the edges; `PackagesOfEveryChoice`; or `Memory`.
+/// the format, of the depth, of the edges; `PackagesOfEveryChoice`; `ExcludeAlone`; or `Memory`.
 pub fn arguments<'a>(
     alloc: Global,
     request: Request<'a>,
@@ -172,6 +185,7 @@ pub fn arguments<'a>(
     let depth = depth_of(request.depth)?;
     let edges = edges_of(request.edges)?;
     all_members(request.question, &request.packages)?;
+    of_all_members(request.workspace, &request.exclude)?;
     let features = feature_words(alloc, &request.features)?;
     Ok(CommandArguments {
         question: request.question,
@@ -181,6 +195,7 @@ pub fn arguments<'a>(
         resolver,
         packages: request.packages,
         workspace: request.workspace,
+        exclude: request.exclude,
         features,
         all_features: request.all_features,
         no_default_features: request.no_default_features,

@@ -18,6 +18,8 @@ pub enum WordsFault<'a> {
     GraphFormat,
     /// The question is about every choice, and `-p` selects packages.
     PackagesOfEveryChoice,
+    /// Members are excluded, and not all members are selected.
+    ExcludeAlone,
     /// The word isn't a decimal number.
     Depth(&'a str),
     /// The word is neither `packages` nor `features`.

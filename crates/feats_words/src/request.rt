@@ -69,6 +69,8 @@ pub struct Request<'a> {
     pub old_manifest: Option<&'a str>,
     pub packages: Vec<&'a str>,
     pub workspace: bool,
+    /// The members that `workspace` leaves out.
+    pub exclude: Vec<&'a str>,
     /// The values of `--features`, each with one or more words.
     pub features: Vec<&'a str>,
     pub all_features: bool,
@@ -193,6 +195,7 @@ fn asked<'a>(
         old_manifest: value(matches, "old-manifest"),
         packages: values(alloc, matches, "package")?,
         workspace: is_given(matches, "workspace"),
+        exclude: values(alloc, matches, "exclude")?,
         features: values(alloc, matches, "features")?,
         all_features: is_given(matches, "all-features"),
         no_default_features: is_given(matches, "no-default-features"),
@@ -223,6 +226,7 @@ pub fn document_request<'a>(
         old_manifest: None,
         packages: copied(alloc, &request.packages)?,
         workspace: request.workspace,
+        exclude: copied(alloc, &request.exclude)?,
         features: copied(alloc, &request.features)?,
         all_features: request.all_features,
         no_default_features: request.no_default_features,

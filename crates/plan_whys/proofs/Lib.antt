@@ -1,5 +1,6 @@
 pub mod Indexes
 pub mod Joined
+pub mod LastLemmas
 pub mod LeadingWays
 pub mod LinksSpotLemmas
 pub mod Listed

@@ -39,14 +39,19 @@ has_inside [] k t = cc
 has_inside (b ∷ set) zero t = omega arith
 has_inside (b ∷ set) (suc k) t = let h = has_inside set k t in omega (arith, h)
 
--- the steps of a why are those of nodes
-pub kept_inside : (t : Tables) (b : Built) (initials : List Bool) (A : ℕ → Half → Bool) (steps kept taken : List Step) (n : ℕ) → IsBuilt t b → EndsAreNodes (content_of Forward b) → length initials ≡ length (node_packages t)
-    → IsWhy (content_of Forward b) (has initials) A steps n kept → taken ≡ kept → AreInside (length (node_packages t)) (content_of Forward b) taken
-kept_inside t b initials A steps kept taken n is ends size why same =
+-- the steps of an explanation are those of nodes
+pub steps_inside : (t : Tables) (b : Built) (initials : List Bool) (A : ℕ → Half → Bool) (steps taken : List Step) → IsBuilt t b → EndsAreNodes (content_of Forward b) → length initials ≡ length (node_packages t)
+    → IsExplanation (content_of Forward b) (has initials) A steps → taken ≡ steps → AreInside (length (node_packages t)) (content_of Forward b) taken
+steps_inside t b initials A steps taken is ends size explanation same =
     let nodes : length initials ≡ length b.packages = sized t b initials is size in
     let inside : (k : ℕ) → IsTrue (has initials k) → k < length b.packages = λ k h. subst (λ m. k < m) nodes (has_inside initials k h) in
     subst (λ m. AreInside m (content_of Forward b) taken) (ap length is.packages)
-    (subst (AreInside (length b.packages) (content_of Forward b)) (sym same) (explained_inside (content_of Forward b) (has initials) A kept ends inside why.explanation))
+    (subst (AreInside (length b.packages) (content_of Forward b)) (sym same) (explained_inside (content_of Forward b) (has initials) A steps ends inside explanation))
+
+-- so are those of a why
+pub kept_inside : (t : Tables) (b : Built) (initials : List Bool) (A : ℕ → Half → Bool) (steps kept taken : List Step) (n : ℕ) → IsBuilt t b → EndsAreNodes (content_of Forward b) → length initials ≡ length (node_packages t)
+    → IsWhy (content_of Forward b) (has initials) A steps n kept → taken ≡ kept → AreInside (length (node_packages t)) (content_of Forward b) taken
+kept_inside t b initials A steps kept taken n is ends size why same = steps_inside t b initials A kept taken is ends size why.explanation same
 
 -- why a node was reached
 pub node_answered : (on : PairVisit) (b : Built) (I : ℕ → Bool) (steps kept taken : List Step) (n : ℕ) (whys : List WhyText) → IsBuilt on.visit.tables b → IsExplanation (content_of Forward b) I every steps

@@ -82,7 +82,7 @@ pub starts_are : (w : WorkspaceText) (s : SettingsText) (on : PairVisit) (v : Vi
 starts_are w s on v places taken I visit are same nodes n =
     nodes n ∙ ap (λ (u : Visit). is_start u.tables (map place_view taken) n) visit ∙ ap (λ ps. is_start on.visit.tables (map place_view ps) n) same ∙ ap (λ starts. is_start on.visit.tables starts n) are
 
-spot_answered : (w : WorkspaceText) (s : SettingsText) (on : PairVisit) (I : ℕ → Bool) (spot : SpotText) (node : Option ℕ) (found : Option (List WhyText)) → node ≡ node_of on spot → ((k : ℕ) → I k ≡ is_start on.visit.tables (on_starts w s) k)
+pub spot_answered : (w : WorkspaceText) (s : SettingsText) (on : PairVisit) (I : ℕ → Bool) (spot : SpotText) (node : Option ℕ) (found : Option (List WhyText)) → node ≡ node_of on spot → ((k : ℕ) → I k ≡ is_start on.visit.tables (on_starts w s) k)
     → AnswersAt on I node found → Answers w s on spot found
 spot_answered w s on I spot None found same starts answer = subst (Answers w s on spot) (sym answer) (off_without_node w s on spot None refl same)
 spot_answered w s on I spot (Some n) found same starts answer = answers_by_node w s on spot I n found same starts answer

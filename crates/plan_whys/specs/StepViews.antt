@@ -20,6 +20,9 @@ reason_text (From start gate) = from (spot_text start) (option_map spot_text gat
 abbrev pub why_text : WhyStep → WhyText
 why_text s = record { spot = spot_text s.at; reason = reason_text s.reason }
 
+abbrev pub last_text : Option WhyStep → Option WhyText
+last_text last = option_map why_text last
+
 abbrev pub reasoned_text : ReasonedStep → ReasonedText
 reasoned_text r = record { step = why_text r.step; reasons = map reason_text r.reasons.items }
 

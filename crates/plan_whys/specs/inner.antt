@@ -1,2 +1,3 @@
 -- Definitions for private functions.
 pub mod Nodes
+pub mod Lasts

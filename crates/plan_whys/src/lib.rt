@@ -3,6 +3,7 @@
 
 mod direct_reasons;
 mod explanations;
+mod last_steps;
 mod laws;
 pub mod links;
 mod nodes;
@@ -13,6 +14,7 @@ mod whys;
 
 pub use cargo_plans::Side;
 pub use direct_reasons::reasons;
+pub use last_steps::last_step_each;
 pub use laws::whys_lead_to_spots;
 pub use step_reasons::reasoned_steps;
 pub use steps::{ReasonedStep, Spot, WhyReason, WhyStep};

@@ -115,7 +115,7 @@ pub(crate) fn reason_of<'p>(
 }
 
 /// Returns `step` by spots. `table` has the edges of the visit.
-fn step_of<'p>(on: &'p PackageVisit, table: &Packed<'_>, step: Step) -> WhyStep<'p>
+pub(crate) fn step_of<'p>(on: &'p PackageVisit, table: &Packed<'_>, step: Step) -> WhyStep<'p>
     requires { IsInside (length (node_packages on.now.visit.tables)) table.now.holds step }
     ensures { IsStepOf on.now table.now.holds step (why_text result) }
 {

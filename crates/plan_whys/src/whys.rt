@@ -23,7 +23,7 @@ use plan_words::choose;
 use std::alloc::{AllocError, Global};
 
 /// Returns the nodes at which step `on` starts.
-fn initials_of<P: Platform>(
+pub(crate) fn initials_of<P: Platform>(
     alloc: Global,
     workspace: &Workspace<'_>,
     settings: &Settings<'_, '_, P>,

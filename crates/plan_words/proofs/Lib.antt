@@ -3,4 +3,5 @@ pub mod Lists
 pub mod PatternFits
 pub mod Sorted
 pub mod Texts
+pub mod Urls
 pub mod Within

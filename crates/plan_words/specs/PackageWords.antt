@@ -5,7 +5,7 @@ use Rattle.std.specs.Option.{option_map_or}
 use Rattle.std.specs.Str.{bytes_eq}
 use Rattle.cargo_workspaces.specs.Workspaces.{Text, PackageText, WorkspaceText}
 use Rattle.plan_words.specs.Patterns.{fits}
-use Rattle.plan_words.specs.Selections.{ChoiceText, default_members, all_members, named}
+use Rattle.plan_words.specs.Selections.{ChoiceText, all_but, all_members, default_members, named}
 use Rattle.plan_words.specs.Refusals.{Refusal, ambiguous_package, no_packages, unknown_package, ◌>>=◌}
 
 abbrev pub is_hash : ℕ → Bool
@@ -122,6 +122,17 @@ abbrev pub selected_by_words : WorkspaceText → List Text → Result (List ℕ)
 selected_by_words w [] = Ok []
 selected_by_words w (word ∷ words) = selected_by w word >>= λ ps. selected_by_words w words >>= λ more. Ok (ps ++ more)
 
+-- Whether a word excludes a package: it names it, or the package's name fits it as a pattern.
+abbrev pub excludes : PackageText → Text → Bool
+excludes p word = has_id word p || is_named word p || fits word p.name
+
+abbrev pub is_kept : WorkspaceText → List Text → ℕ → Bool
+is_kept w words m = option_map_or (λ p. not (list_any (excludes p) words)) (slice_get w.packages m) false
+
+-- The members that no word excludes.
+abbrev pub members_but : WorkspaceText → List Text → List ℕ
+members_but w words = filter (is_kept w words) w.members
+
 -- A selection must have a package.
 abbrev pub some_of : List ℕ → Result (List ℕ) Refusal
 some_of [] = Err no_packages
@@ -132,3 +143,4 @@ abbrev pub selected : WorkspaceText → ChoiceText → Result (List ℕ) Refusal
 selected w default_members = some_of w.default_members
 selected w all_members = some_of w.members
 selected w (named words) = selected_by_words w words
+selected w (all_but words) = some_of (members_but w words)

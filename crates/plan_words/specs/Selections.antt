@@ -10,6 +10,7 @@ pub data ChoiceText : Type 0 where
   default_members : ChoiceText
   all_members : ChoiceText
   named : List Text → ChoiceText
+  all_but : List Text → ChoiceText
 
 pub record SelectionText : Type 0 where
   pub packages : ChoiceText
@@ -22,6 +23,7 @@ abbrev pub choice_text : PackageChoice → ChoiceText
 choice_text choice.Default = default_members
 choice_text choice.Workspace = all_members
 choice_text (choice.Named words) = named (texts words.now)
+choice_text (choice.AllBut words) = all_but (texts words.now)
 
 abbrev pub selection_text : Selection → SelectionText
 selection_text s = record { packages = choice_text s.packages; features = texts s.features.now; all_features = s.all_features; no_default_features = s.no_default_features; split = s.split }

@@ -1,3 +1,4 @@
 -- Definitions for private functions.
 pub mod Lookups
+pub mod Urls
 pub mod Views

@@ -1,9 +1,10 @@
 //! The packages that words name.
 ghost use Rattle.std.specs.Prelude.{◌≡◌, IfOk, IsTrue, length, map, nat_lt};
-ghost use Rattle.std.specs.List.{list_all};
+ghost use Rattle.std.specs.List.{list_all, list_any};
 ghost use Rattle.cargo_workspaces.specs.Views.{package_text, texts};
 ghost use Rattle.cargo_workspaces.specs.WorkspaceView.{workspace_text};
 ghost use Rattle.plan_words.specs.PackageWords as spec;
+ghost use Rattle.plan_words.specs.inner.Urls.{may_be_url};
 ghost use Rattle.plan_words.specs.Refusals.{Gives};
 ghost use Rattle.plan_words.specs.Selections.{choice_text};
 
@@ -142,11 +143,19 @@ fn fits_url(word: &str, package: &Package<'_>) -> bool
     }
 }
 
-/// Returns whether `word` names `package`: by its name, perhaps with a version, or by its URL.
-fn is_named(word: &str, package: &Package<'_>) -> bool
+/// Returns whether `word` contains a `#` or a `/`. A word without both is the URL of no package.
+fn may_be_url(word: &str) -> bool
+    ensures { result ≡ may_be_url word.now }
+{
+    word.contains('#') || word.contains('/')
+}
+
+/// Returns whether `word` names `package`: by its name, perhaps with a version, or by its URL. `has_marks` is whether `word` may be a URL.
+fn is_named(word: &str, has_marks: bool, package: &Package<'_>) -> bool
+    requires { has_marks ≡ may_be_url word.now }
     ensures { result ≡ spec.is_named word.now (package_text «package».now) }
 {
-    fits_name(word, package) || fits_url(word, package)
+    fits_name(word, package) || has_marks && fits_url(word, package)
 }
 
 /// Returns the numbers of the packages whose id is `word`.
@@ -174,9 +183,10 @@ fn packages_named(
 ) -> Result<Vec<usize>, AllocError>
     ensures { IfOk result (λ numbers. numbers.items ≡ spec.numbers_from (spec.is_named word.now) 0 (map package_text packages.now)) }
 {
+    let has_marks = may_be_url(word);
     let mut numbers = Vec::new(alloc);
     for (ix, package) in packages.iter().enumerate() {
-        if is_named(word, package) {
+        if is_named(word, has_marks, package) {
             numbers.push(ix)?;
         }
     }
@@ -274,6 +284,46 @@ fn selected_by_words<'s>(
     Ok(packages)
 }
 
+/// Returns whether `word` names `package`, or the package's name fits it as a pattern.
+fn excludes(package: &Package<'_>, word: &str) -> bool
+    ensures { result ≡ spec.excludes (package_text «package».now) word.now }
+{
+    word == package.id || is_named(word, may_be_url(word), package) || fits(word, package.name)
+}
+
+/// Returns whether one of `words` excludes `package`.
+fn is_excluded(package: &Package<'_>, words: &[&str]) -> bool
+    ensures { result ≡ list_any (spec.excludes (package_text «package».now)) (texts words.now) }
+{
+    for word in words {
+        if excludes(package, word) {
+            return true;
+        }
+    }
+    false
+}
+
+/// Returns the members of `workspace` that none of `words` excludes.
+#[tactic(auto, using(crate::proofs::Lists::list_all_more))]
+fn members_but(
+    alloc: Global,
+    workspace: &Workspace<'_>,
+    words: &[&str],
+) -> Result<Vec<usize>, AllocError>
+    ensures members { IfOk result (λ kept. kept.items ≡ spec.members_but (workspace_text workspace.now) (texts words.now)) }
+    ensures within { IfOk result (λ kept. IsTrue (list_all (λ p. nat_lt p (length (workspace_text workspace.now).packages)) kept.items)) }
+{
+    // (calls named facts() carry the invariant into the proof)
+    workspace.facts();
+    let mut kept = Vec::new(alloc);
+    for member in workspace.members() {
+        if !is_excluded(workspace.package(*member), words) {
+            kept.push(*member)?;
+        }
+    }
+    Ok(kept)
+}
+
 /// Returns `numbers`, those of the selected packages; NoPackages if there are none.
 fn some_of<'s>(alloc: Global, numbers: &[usize]) -> Result<Vec<usize>, WordFault<'s>>
     ensures { Gives (λ packages. packages.items) result (spec.some_of numbers.now) }
@@ -300,5 +350,9 @@ pub(crate) fn selected<'s>(
         PackageChoice::Default => some_of(alloc, workspace.default_members()),
         PackageChoice::Workspace => some_of(alloc, workspace.members()),
         PackageChoice::Named(words) => selected_by_words(alloc, workspace, words),
+        PackageChoice::AllBut(words) => {
+            let members = members_but(alloc, workspace, words)?;
+            some_of(alloc, &members)
+        }
     }
 }

@@ -5,5 +5,6 @@ pub mod Exactness
 pub mod Members
 pub mod Runs
 pub mod BackLemmas
+pub mod WhyExists
 pub mod PlaceLemmas
 pub mod WaitLemmas

@@ -1,12 +1,13 @@
 //! Laws of explanations. Each function does nothing; its contract is the law, about the definitions alone.
 
-ghost use Rattle.std.specs.Prelude.{◌≡◌, ◌↔◌, ℕ, Bool, List, IsTrue};
+ghost use Rattle.std.specs.Prelude.{◌≡◌, ◌↔◌, ℕ, Bool, List, [], ◌∷◌, ◌++◌, Some, slice_get, IsTrue};
 ghost use Rattle.walk_engine.specs.Walks.{Content, Least, is_in};
 ghost use Rattle.walk_engine.specs.Explanations.{IsExplanation, IsExplainedWalk, nodes_of};
 ghost use Rattle.walk_engine.specs.Laws.{every};
 ghost use Rattle.walk_engine.specs.declared.walks.Half.{Half};
 ghost use Rattle.walk_engine.specs.declared.walks.Step.{Step};
 ghost use Rattle.walk_checks.specs.Exact.{named_in, all_but, IsExact, IsExplainedRun};
+ghost use Rattle.walk_checks.specs.Whys.{IsWhy};
 
 use walk_engine::Offerer;
 
@@ -38,4 +39,11 @@ pub fn run_is_exact()
         → IsExplainedRun c I M steps refused → IsExplanation c I every steps }
     ensures exact { (c : Content) (I : ℕ → Bool) (M : ℕ → Bool) (steps : List Step) (refused : List (ℕ × Half))
         → IsExplainedRun c I M steps refused → IsExact c I refused steps }
+{}
+
+/// Each step of an explanation is the last step of the reason why its node is listed.
+pub fn each_step_ends_a_why()
+    ensures { (c : Content) (I : ℕ → Bool) (A : ℕ → Half → Bool) (steps : List Step) → IsExplanation c I A steps
+        → (place : ℕ) (step : Step) → slice_get steps place ≡ Some step
+        → (before : List Step) × IsWhy c I A steps step.node (before ++ step ∷ []) }
 {}

@@ -29,7 +29,7 @@ lacks_message packages p lacks name = joined (codes "package " ∷ id_at package
 abbrev pub word_message : List PackageText → WordFault → Text
 word_message packages (word.UnknownPackage w) = joined (codes "no package of the document fits `" ∷ w.now ∷ codes "`: write NAME, NAME@VERSION, an id, or a pattern of members' names with `*`" ∷ [])
 word_message packages (word.AmbiguousPackage w candidates) = several_message packages w.now candidates.items
-word_message packages word.NoPackages = joined (codes "no package is selected: the workspace has no default members, or no members at all; select packages by -p or --workspace" ∷ [])
+word_message packages word.NoPackages = joined (codes "no package is selected: the workspace has no default members, no members at all, or all are excluded; select packages by -p or --workspace" ∷ [])
 word_message packages word.NoMember = joined (codes "features are asked for, and no selected package is a member of the workspace: select a member, or leave the features out" ∷ [])
 word_message packages (word.UnknownFeature w) = joined (codes "no selected member has `" ∷ w.now ∷ codes "`: write a feature of a selected member, or DEPENDENCY/FEATURE" ∷ [])
 word_message packages (word.NoFeature p feature) = lacks_message packages p (codes " has no feature `") feature.now

@@ -106,7 +106,7 @@ fn selection_refused<'p>(alloc: Global, workspace: &'p Workspace<'_>, fault: Wor
         WordFault::NoPackages => refused(
             alloc,
             &[
-                "no package is selected: the workspace has no default members, or no members at all; select packages by -p or --workspace",
+                "no package is selected: the workspace has no default members, no members at all, or all are excluded; select packages by -p or --workspace",
             ],
         ),
         WordFault::NoMember => refused(

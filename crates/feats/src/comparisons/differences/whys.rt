@@ -1,11 +1,12 @@
 //! Why parts and features come: the last step of each `why`.
-ghost use Rattle.std.specs.Prelude.{◌≡◌, ◌++◌, ◌-◌, IfOk, OnOk, drop, flat_map, length, map, string_bytes};
+ghost use Rattle.std.specs.Prelude.{◌≡◌, ◌++◌, IfOk, OnOk, flat_map, map, string_bytes};
 ghost use Rattle.cargo_plans.specs.Plans.{IsPlanOf};
 ghost use Rattle.feature_labels.specs.Names.{label_of};
+ghost use Rattle.feats.specs.comparisons.differences.LastSteps as last_spec;
 ghost use Rattle.feats.specs.comparisons.differences.Views.{build_text, whys_text};
 ghost use Rattle.feats.specs.comparisons.differences.Whys as spec;
 ghost use Rattle.feats_diff.specs.changes.Views.{change_text, differences_text, part_text};
-ghost use Rattle.plan_whys.specs.StepViews.{found_text, spot_text, why_text};
+ghost use Rattle.plan_whys.specs.StepViews.{last_text, spot_text, why_text};
 ghost use Rattle.feats_why.specs.Views.{steps_text};
 
 use crate::comparisons::differences::builds::Build;
@@ -13,8 +14,9 @@ use cargo_plans::{Place, Side};
 use feats_diff::changes::{Change, Differences, Part};
 use feats_why::{each_why_lines, settings_of};
 use feature_labels::FeatureLabel;
-use plan_whys::{Spot, WhyStep, why_each};
+use plan_whys::{Spot, WhyStep, last_step_each};
 use std::alloc::{AllocError, Global};
+use std::slice;
 
 /// The last steps of each `why`.
 #[derive(Drop)]
@@ -124,49 +126,41 @@ fn without_feeds(alloc: Global, lines: &[String]) -> Result<Vec<String>, AllocEr
     Ok(whys)
 }
 
-/// Returns the last of `steps`, as a list.
-fn last_of<'t, 'p>(steps: &'t [WhyStep<'p>]) -> &'t [WhyStep<'p>]
-    ensures { result.now ≡ drop (length steps.now - 1) steps.now }
+/// Returns `last` as a list; an empty one if there is no step.
+fn list_of<'t, 'p>(last: &'t Option<WhyStep<'p>>) -> &'t [WhyStep<'p>]
+    ensures { map why_text result.now ≡ last_spec.list_of (last_text last.now) }
 {
-    let from = steps.len().saturating_sub(1);
-    &steps[from..]
-}
-
-/// Returns the last step of `found`, as a list; an empty one if there are no steps.
-fn last_found<'t, 'p>(found: &'t Option<Vec<WhyStep<'p>>>) -> &'t [WhyStep<'p>]
-    ensures { map why_text result.now ≡ spec.last_of (found_text found.now) }
-{
-    match found {
-        Some(steps) => last_of(steps.as_slice()),
+    match last {
+        Some(step) => slice::from_ref(step),
         None => &[],
     }
 }
 
-/// Returns the last step of each of `founds`, as lists.
-fn lasts_found<'t, 'p>(
+/// Returns each of `lasts` as a list.
+fn lists_of<'t, 'p>(
     alloc: Global,
-    founds: &'t [Option<Vec<WhyStep<'p>>>],
+    lasts: &'t [Option<WhyStep<'p>>],
 ) -> Result<Vec<&'t [WhyStep<'p>]>, AllocError>
-    ensures { IfOk result (λ lasts. map steps_text lasts.items ≡ map spec.last_of (map found_text founds.now)) }
+    ensures { IfOk result (λ lists. map steps_text lists.items ≡ map last_spec.list_of (map last_text lasts.now)) }
 {
-    let mut lasts = Vec::with_capacity(alloc, founds.len())?;
-    for found in founds {
-        lasts.push(last_found(found))?;
+    let mut lists = Vec::with_capacity(alloc, lasts.len())?;
+    for last in lasts {
+        lists.push(list_of(last))?;
     }
-    Ok(lasts)
+    Ok(lists)
 }
 
-/// Returns the line of the last step of each of `founds`, without its end.
-fn last_steps(
+/// Returns the line of each of `lasts`, without its end.
+fn lines_of(
     alloc: Global,
     build: &Build<'_, '_, '_, '_, '_>,
-    founds: &[Option<Vec<WhyStep<'_>>>],
+    lasts: &[Option<WhyStep<'_>>],
 ) -> Result<Vec<String>, AllocError>
-    ensures { IfOk result (λ whys. map string_bytes whys.items ≡ map (spec.last_found (build_text build.now)) (map found_text founds.now)) }
+    ensures { IfOk result (λ whys. map string_bytes whys.items ≡ map (last_spec.line_of (build_text build.now)) (map last_text lasts.now)) }
 {
     let settings = settings_of(build.words);
-    let lasts = lasts_found(alloc, founds)?;
-    let lines = each_why_lines(alloc, build.workspace, &settings, &lasts)?;
+    let lists = lists_of(alloc, lasts)?;
+    let lines = each_why_lines(alloc, build.workspace, &settings, &lists)?;
     without_feeds(alloc, &lines)
 }
 
@@ -179,8 +173,8 @@ fn last_steps_of(
     requires plan { IsPlanOf (build_text build.now).workspace (build_text build.now).words (build_text build.now).plan }
     ensures { IfOk result (λ whys. spec.AreWhys (build_text build.now) (map spot_text spots.now) (map string_bytes whys.items)) }
 {
-    let founds = why_each(alloc, build.workspace, build.words, build.plan, spots)?;
-    last_steps(alloc, build, &founds)
+    let lasts = last_step_each(alloc, build.workspace, build.words, build.plan, spots)?;
+    lines_of(alloc, build, &lasts)
 }
 
 /// Returns the last step of why each of `parts` is on.

@@ -1,7 +1,7 @@
 -- The widened selections of a command line.
 use Rattle.std.specs.Prelude.{List, [], ◌∷◌, ◌||◌, Bool, true, false, not}
 use Rattle.cargo_workspaces.specs.Workspaces.{Text}
-use Rattle.plan_words.specs.Selections.{ChoiceText, SelectionText, all_members, default_members, named}
+use Rattle.plan_words.specs.Selections.{ChoiceText, SelectionText, all_but, all_members, default_members, named}
 use Rattle.cargo_plans.specs.Plans.{WordsText}
 use Rattle.plan_names.specs.declared.wider.widenings.widening.Widening.{Widening}
 use Rattle.plan_names.specs.declared.wider.widenings.widening.Widening.TheVariants as widening
@@ -41,6 +41,7 @@ abbrev pub is_all : ChoiceText → Bool
 is_all default_members = false
 is_all all_members = true
 is_all (named words) = false
+is_all (all_but words) = false
 
 -- Whether a widening adds to the words. The platform is always an addition.
 abbrev pub adds : Widening → WordsText → Bool

@@ -107,7 +107,7 @@ fn has_all_members(selection: Selection<'_>) -> bool
     ensures { result ≡ spec.is_all (selection_text selection.entry).packages }
 {
     match selection.packages {
-        PackageChoice::Default | PackageChoice::Named(_) => false,
+        PackageChoice::Default | PackageChoice::Named(_) | PackageChoice::AllBut(_) => false,
         PackageChoice::Workspace => true,
     }
 }

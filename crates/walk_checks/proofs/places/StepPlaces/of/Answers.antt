@@ -28,7 +28,7 @@ loop-place-preserved c =
     record {
       size = ap length c.put.ensures ∙ (length-set list s.node (Some i) ∙ c.loop-place.invariant.size);
       placed = subst (λ (xs : List (Option ℕ)). Placed c.args.node_count (take (i + 1) (nodes_of steps)) (nodes_of steps) (listed_at xs)) (sym c.put.ensures)
-      (subst (λ (k : ℕ). Placed c.args.node_count (take k (nodes_of steps)) (nodes_of steps) (listed_at (slice_set list s.node (Some i)))) next more);
+          (subst (λ (k : ℕ). Placed c.args.node_count (take k (nodes_of steps)) (nodes_of steps) (listed_at (slice_set list s.node (Some i)))) next more);
     }
 
 pub returns : goal.returns
