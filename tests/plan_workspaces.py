@@ -12,6 +12,7 @@ cargo refuses the others or ignores them.
 import json
 import shutil
 from dataclasses import dataclass, field
+from functools import partial
 from pathlib import Path
 from typing import NamedTuple
 
@@ -387,3 +388,11 @@ def random_selection(numbers, document, with_others):
 def random_excluding(numbers, document):
     """The words of a selection of all members but some."""
     return with_features(numbers, document, *random_exclusion(numbers, document))
+
+
+# What draws the words of a selection from random numbers and a document, by the group.
+GROUPS = {
+    'random': partial(random_selection, with_others=False),
+    'others': partial(random_selection, with_others=True),
+    'excluded': random_excluding,
+}
