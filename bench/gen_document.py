@@ -149,7 +149,11 @@ FAMILIES = {it.__name__.replace('_', '-'): it for it in (uses, specs, chain, fea
 
 def family_of(family, n, version='1.0.0'):
     """Returns the document of a family. Packages from a registry have the version `version`."""
-    packages = FAMILIES[family](n)
+    return document_of(FAMILIES[family](n), version)
+
+
+def document_of(packages, version='1.0.0'):
+    """Returns the document of packages. Those from a registry have the version `version`."""
     ids = {it.name: f'path+file:///w/{it.name}#1.0.0' if it.is_member else f'{REGISTRY}#{it.name}@{version}' for it in packages}
     selected = [ids[it.name] for it in packages if it.is_member]
     return {'packages': [package_of(it, ids, version) for it in packages], 'workspace_members': selected, 'workspace_default_members': selected,

@@ -9,6 +9,7 @@ The nodes are the units of a plan. With --edges features they are the spots that
 that it depends on. The spots that are roots are those that a command feature turns on, and below each spot are those that it turns on. With
 --invert the roots are the units of the package, or the spots of the parts that are on, and the links are turned round. The nodes below a
 line are in the order of the nodes. They are shown once: at the first line of their node that is above the depth N. `(*)` marks a later line.
+Without --depth N is 1000. If the nodes below some line are then shown nowhere, a last line says so.
 
 `dot`: a node for each unit in the cluster of its place, or for each spot in the cluster of its side, and an edge for each link. The targets'
 clusters are before that of the host.
@@ -26,6 +27,11 @@ import plan_model
 from answer_model import objects_of
 from link_model import name_of_place, root_units, spot_links, unit_links, units_of
 from plan_model import COMMAND, HOST, TARGET, Plan, Refused
+
+# The depth without --depth, and the last lines of trees that go on below it.
+DEPTH = 1000
+CUT_LINE = '(the tree goes on below 1,000 levels: --depth N shows N levels)\n'
+CUT_OBJECT = {'cut-at-depth': 1000}
 
 
 class Graph(NamedTuple):
@@ -105,17 +111,18 @@ def below(graph, links):
 
 def lines_below(ends, node, lasts, limit, shown):
     yield node, lasts, node in shown and bool(ends[node])
-    if node not in shown and (limit is None or len(lasts) < limit):
+    if node not in shown and len(lasts) < limit:
         shown.add(node)
         for end in ends[node]:
             yield from lines_below(ends, end, [*lasts, end == ends[node][-1]], limit, shown)
 
 
-def lines_of(graph, wanted=None, limit=None):
-    """The lines of the trees; if nodes are wanted, of their inverted trees."""
+def lines_of(graph, wanted, limit):
+    """The lines of the trees; if nodes are wanted, of their inverted trees. And whether they are cut though no limit is given."""
     roots, links = (graph.roots, graph.links) if wanted is None else (wanted, {(b, a) for a, b in graph.links})
     ends, shown = below(graph, links), set()
-    return [line for node in graph.nodes if node in roots for line in lines_below(ends, node, [], limit, shown)]
+    lines = [line for node in graph.nodes if node in roots for line in lines_below(ends, node, [], DEPTH if limit is None else limit, shown)]
+    return lines, limit is None and any(ends[node] and node not in shown for node, _, _ in lines)
 
 
 def marks_of(lasts):
@@ -123,14 +130,15 @@ def marks_of(lasts):
 
 
 def tree_text(graph, wanted=None, limit=None):
-    lines = [('' if lasts else '\n') + marks_of(lasts) + graph.titles[node] + (' (*)' if again else '') + '\n'
-             for node, lasts, again in lines_of(graph, wanted, limit)]
-    return ''.join(lines).removeprefix('\n')
+    lines, is_cut = lines_of(graph, wanted, limit)
+    texts = [('' if lasts else '\n') + marks_of(lasts) + graph.titles[node] + (' (*)' if again else '') + '\n' for node, lasts, again in lines]
+    return ''.join(texts).removeprefix('\n') + CUT_LINE * is_cut
 
 
 def tree_objects(graph, wanted=None, limit=None):
-    return objects_of({'depth': len(lasts), 'id': graph.ids[node], 'title': graph.titles[node], 'again': again}
-                      for node, lasts, again in lines_of(graph, wanted, limit))
+    lines, is_cut = lines_of(graph, wanted, limit)
+    objects = [{'depth': len(lasts), 'id': graph.ids[node], 'title': graph.titles[node], 'again': again} for node, lasts, again in lines]
+    return objects_of([*objects, *[CUT_OBJECT] * is_cut])
 
 
 # Graphs.

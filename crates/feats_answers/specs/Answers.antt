@@ -19,6 +19,7 @@ use Rattle.feats_answers.specs.PolicyTexts.{IsCheckAnswer, IsCheckRefusal}
 use Rattle.feats_answers.specs.SlimTexts.{IsNoSlim, IsSlimBy}
 use Rattle.feats_answers.specs.SpecTexts.{IsSpecText, places}
 use Rattle.feats_answers.specs.WhyNotTexts.{IsWhyNotAnswer}
+use Rattle.feats_answers.specs.WhyParts.{IsWhyRefusal}
 use Rattle.feats_answers.specs.WhyTexts.{IsWhyAnswer}
 
 -- The answer to one of the questions.
@@ -41,7 +42,7 @@ IsAnswerTo asked w words build = Answers asked.arguments.question asked w words 
 -- The message that refuses one of the questions.
 abbrev pub Refuses : QuestionText → AskedText → WorkspaceText → WordsText → PlanText → Text → Type 0
 Refuses plan a w words build = λ _. ⊥
-Refuses (why word all) a w words build = IsPartRefusal w words word
+Refuses (why word all) a w words build = IsWhyRefusal w words build word
 Refuses (why_not word) a w words build = IsPartRefusal w words word
 Refuses specs a w words build = λ _. ⊥
 Refuses (list word) a w words build = IsNameRefusal w.packages (package_named w.packages word)

@@ -16,4 +16,5 @@ pub mod SlimTexts
 pub mod SpecTexts
 pub mod TreeTexts
 pub mod WhyNotTexts
+pub mod WhyParts
 pub mod WhyTexts

@@ -20,7 +20,8 @@ use Rattle.feats_words.specs.declared.command_arguments.Format.TheVariants as fo
 use Rattle.feats_answers.specs.AnswerTexts.{AnswerText}
 use Rattle.feats_answers.specs.BuiltSpots.{spots_in, unbuilt_text_of}
 use Rattle.feats_answers.specs.Gathered.{AreShown, gathered}
-use Rattle.feats_answers.specs.Parts.{ArePartsOf, spot_on}
+use Rattle.feats_answers.specs.Parts.{spot_on}
+use Rattle.feats_answers.specs.WhyParts.{AreWhyParts}
 
 -- The text of the steps of an explanation.
 abbrev pub steps_text : Format → List PackageText → WordsText → List WhyText → Text
@@ -92,5 +93,5 @@ pub record IsWhyAnswerOf (form : Format) (all : Bool) (w : WorkspaceText) (words
 -- The answer to `why` with this word.
 pub record IsWhyAnswer (form : Format) (all : Bool) (w : WorkspaceText) (words : WordsText) (plan : PlanText) (word : Text) (answer : AnswerText) : Type 0 where
   pub parts : List NamedText
-  pub are_parts : ArePartsOf w words word parts
+  pub are_parts : AreWhyParts w words plan word parts
   pub is_answer : IsWhyAnswerOf form all w words plan word parts answer

@@ -21,6 +21,7 @@ ghost use Rattle.feats_answers.specs.PlanTexts.{text_of_units};
 ghost use Rattle.feats_answers.specs.SlimTexts.{IsNoSlim, IsSlimBy};
 ghost use Rattle.feats_answers.specs.SpecTexts.{IsSpecText, places};
 ghost use Rattle.feats_answers.specs.WhyNotTexts.{IsWhyNotAnswer};
+ghost use Rattle.feats_answers.specs.WhyParts.{IsWhyRefusal};
 ghost use Rattle.feats_answers.specs.WhyTexts.{IsWhyAnswer};
 
 use crate::answer::{Answer, positive};
@@ -35,6 +36,7 @@ use crate::plan_texts::text_of_units;
 use crate::policy_texts::{PolicyWord, check_answer};
 use crate::slim_texts::slim_text;
 use crate::spec_texts::spec_text;
+use crate::why_parts::why_parts_of;
 use crate::why_texts::{WhyQuestion, why_answer_of};
 use cargo_plans::{Plan, PlanWords};
 use cargo_workspaces::Workspace;
@@ -118,9 +120,9 @@ fn why_answer<'w>(
 ) -> Result<Answer, Fault>
     requires plan { IsPlanOf (workspace_text workspace.now) (words_text holds_on words.now) (plan_text plan.now) }
     ensures answer { IfOk result (λ answer. IsWhyAnswer format all (workspace_text workspace.now) (words_text holds_on words.now) (plan_text plan.now) word.now (answer_text answer)) }
-    ensures fault { IfErr result (λ fault. Says fault (IsPartRefusal (workspace_text workspace.now) (words_text holds_on words.now) word.now)) }
+    ensures fault { IfErr result (λ fault. Says fault (IsWhyRefusal (workspace_text workspace.now) (words_text holds_on words.now) (plan_text plan.now) word.now)) }
 {
-    let named = parts_of(alloc, workspace, words, word)?;
+    let named = why_parts_of(alloc, workspace, words, plan, word)?;
     let asked = WhyQuestion { format, word, all };
     Ok(why_answer_of(alloc, asked, workspace, words, plan, &named)?)
 }

@@ -19,6 +19,7 @@ mod policy_texts;
 mod slim_texts;
 mod spec_texts;
 mod tree_texts;
+mod why_parts;
 mod why_texts;
 
 pub use answer::Answer;

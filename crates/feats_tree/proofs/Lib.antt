@@ -1,4 +1,5 @@
 pub mod BranchLemmas
+pub mod CutLemmas
 pub mod FeaturesShown
 pub mod KeyLemmas
 pub mod LevelLemmas

@@ -1,11 +1,12 @@
 -- What the parts of a text show of a plan.
-use Rattle.std.proofs.Common.{◌≡◌, ◌∙◌, ℕ, List, Option, Result, ap, ap₂, length, map, subst}
+use Rattle.std.proofs.Common.{◌≡◌, ◌∙◌, ◌++◌, ℕ, Bool, List, Option, Some, Result, ap, ap₂, length, map, subst}
 use Rattle.std.specs.Prelude.{IfOk}
 use Rattle.std.specs.Global.{Vec}
 use Rattle.std.proofs.lemmas.Result.{IfOk-weaker}
 use Rattle.cargo_workspaces.specs.Workspaces.{PackageText, Text}
 use Rattle.feats_words.specs.declared.command_arguments.Format.{Format}
-use Rattle.feats_tree.specs.trees.Branches.{AreBranches}
+use Rattle.feats_tree.specs.trees.Branches.{AreBranches, is_cut}
+use Rattle.feats_tree.specs.trees.Cuts.{limit_of}
 use Rattle.feats_tree.specs.trees.Titles.{TitleText}
 use Rattle.feats_tree.specs.declared.trees.trees.Branch.{Branch}
 use Rattle.feats_tree.specs.dots.Dots.{NodeText, dot_text}
@@ -14,7 +15,7 @@ use Rattle.cargo_plans.specs.plan_steps.Plans.{PlanText}
 use Rattle.cargo_plans.specs.plan_units.Units.{UnitText}
 use Rattle.feats_tree.specs.packages.Dots.{IsPackageDot, clusters, dot_of, nodes_with}
 use Rattle.feats_tree.specs.packages.Titles.{unit_title, unit_titles}
-use Rattle.feats_tree.specs.packages.Trees.{AreTurned, IsInvertedTree, IsPackageTree, IsTreeText, branches_text, units_of}
+use Rattle.feats_tree.specs.packages.Trees.{AreTurned, IsInvertedTree, IsPackageTree, IsTreeText, branches_text, end_text, units_of}
 
 module _ {E : Type 0} (r : Result (Vec ℕ) E) where
   -- Graphs.
@@ -32,10 +33,15 @@ module _ {E : Type 0} (r : Result (Vec ℕ) E) where
 
   -- Trees.
 
-  pub tree_by : (form : Format) (links : List (ℕ × ℕ)) (roots : List ℕ) (limit : Option ℕ) (titles : List TitleText) (branches taken : List Branch) → AreBranches links roots limit branches → taken ≡ branches
-      → IfOk r (λ text. text.items ≡ branches_text form titles taken) → IfOk r (λ text. IsTreeText form links roots limit titles text.items)
-  tree_by form links roots limit titles branches taken are same is =
-      IfOk-weaker r _ _ (λ text shown. record { branches = branches; are_branches = are; is_text = shown ∙ ap (branches_text form titles) same }) is
+  pub tree_by : (form : Format) (links : List (ℕ × ℕ)) (roots : List ℕ) (limit : Option ℕ) (titles : List TitleText) (branches taken : List Branch) (depth : ℕ) (lines : Text) (cut : Bool)
+      → depth ≡ limit_of limit → AreBranches links roots (Some depth) branches → taken ≡ branches → lines ≡ branches_text form titles taken → cut ≡ is_cut links (Some depth) branches
+      → IfOk r (λ text. text.items ≡ lines ++ end_text form limit cut) → IfOk r (λ text. IsTreeText form links roots limit titles text.items)
+  tree_by form links roots limit titles branches taken depth lines cut depth_is are same lines_are cut_is is =
+      IfOk-weaker r _ _ (λ text shown. record {
+        branches = branches;
+        are_branches = subst (λ (d : ℕ). AreBranches links roots (Some d) branches) depth_is are;
+        is_text = shown ∙ ap₂ (λ (ls : Text) (c : Bool). ls ++ end_text form limit c) (lines_are ∙ ap (branches_text form titles) same) (cut_is ∙ ap (λ (d : ℕ). is_cut links (Some d) branches) depth_is);
+      }) is
 
   pub package_trees : (form : Format) (names : List Text) (packages : List PackageText) (plan : PlanText) (limit : Option ℕ) (links : List (ℕ × ℕ)) (roots : List ℕ) (ns : List Text) (ps : List PackageText) (us : List UnitText)
       → AreUnitLinks plan links → roots ≡ root_units plan → ns ≡ names → ps ≡ packages → us ≡ plan.units

@@ -1,4 +1,5 @@
 pub mod Branches
+pub mod Cuts
 pub mod Lines
 pub mod Objects
 pub mod Reach

@@ -14,3 +14,4 @@ pub mod Known
 pub mod Rules
 pub mod UseSets
 pub mod Named
+pub mod OtherNames

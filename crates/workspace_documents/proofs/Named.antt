@@ -1,4 +1,4 @@
--- A declaration finds among the used packages of its name what it finds among all.
+-- The result for a declaration is the same, whether all used packages are searched or only those that have the declared name.
 use Rattle.std.proofs.Common.{◌≡◌, ◌∙◌, sym, ap, refl, ℕ, ◌+◌, ◌<◌, List, [], ◌∷◌, ◌++◌, map, length, drop, get_or, add-one, drop-cons, Bool, true, false, cond, append_assoc}
 use Rattle.std.specs.Prelude.{◌&&◌, filter, Some, option_map, slice_get, if◌then◌else◌}
 use Rattle.std.proofs.lemmas.List.{append-nil}

@@ -24,7 +24,7 @@ name_more : (name : Bor Text) (q : Text) (old new : Bool) → new ≡ cond (is_e
 name_more name q old new grown = grown ∙ either (is_eq (id_cmp name.now q)) old ∙ ap (λ b. b || old) (is_eq-slice_cmp name.now q)
 
 -- a text in a key
-abbrev lent : Text → Bor Text
+abbrev pub lent : Text → Bor Text
 lent t = record { ref_ptr = (0, 0); now = t }
 
 -- one more name

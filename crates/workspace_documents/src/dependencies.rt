@@ -1,14 +1,16 @@
 //! Finds the package that each declaration leads to.
-ghost use Rattle.std.specs.Prelude.{◌≡◌, ◌++◌, [], IfOk, OnOk, map, option_map, string_bytes};
+ghost use Rattle.std.specs.Prelude.{◌≡◌, ◌++◌, [], IfOk, OnOk, None, false, map, option_map, string_bytes};
 ghost use Rattle.std.specs.List.{find};
 ghost use Rattle.cargo_json.specs.Faults.{Gives, refusal_of};
 ghost use Rattle.cargo_json.specs.Faults as fault;
 ghost use Rattle.workspace_documents.specs.Dependencies as spec;
 ghost use Rattle.workspace_documents.specs.declared.dependencies.Asked.TheVariants as asked;
+ghost use Rattle.workspace_documents.specs.inner.Aliases.{has_id};
 ghost use Rattle.workspace_documents.specs.inner.Picks as picks;
 ghost use Rattle.workspace_documents.specs.Names.{HasNames, at_places};
 ghost use Rattle.workspace_documents.specs.Views.{text_view, declaration_view, dep_view, package_view, dependency_view};
 
+use crate::aliases::aliased;
 use crate::names::{Names, names_of};
 use crate::nodes::Dep;
 use crate::packages::{Declaration, Package};
@@ -16,6 +18,7 @@ use crate::requirements::admits;
 use crate::uses::has_use;
 use cargo_json::DocumentFault;
 use std::alloc::{AllocError, Global};
+use std::collections::BTreeSet;
 
 /// A declaration and the package that it leads to.
 #[derive(Clone, Copy)]
@@ -394,6 +397,23 @@ fn other_name<'a, 'p, 'v>(
     None
 }
 
+/// Returns the same as `other_name`, without a search if the id of the package isn't in `aliased`. This has the ids of all packages
+/// to which `dependencies` lead by several names.
+fn other_name_if_aliased<'a, 'p, 'v>(
+    aliased: &BTreeSet<&str>,
+    dependencies: &'a [Dependency<'p, 'v>],
+    one: &Dependency<'p, 'v>,
+) -> Option<&'a Dependency<'p, 'v>>
+    requires { has_id aliased.now one.now.target.now.id.now ≡ false → find (spec.is_other_name (dependency_view one.now)) (map dependency_view dependencies.now) ≡ None }
+    ensures { option_map (λ d. dependency_view d.now) result ≡ find (spec.is_other_name (dependency_view one.now)) (map dependency_view dependencies.now) }
+{
+    if aliased.contains(one.target.id) {
+        other_name(dependencies, one)
+    } else {
+        None
+    }
+}
+
 /// Refuses two names for one pair of packages, since a link has one.
 pub fn check_names(
     alloc: Global,
@@ -402,8 +422,9 @@ pub fn check_names(
 ) -> Result<(), DocumentFault>
     ensures { Gives (λ _. tt) result (spec.agree «package».now.id.now (map dependency_view dependencies.now) (map dependency_view dependencies.now)) }
 {
+    let aliased = aliased(alloc, dependencies)?;
     for one in dependencies {
-        if let Some(other) = other_name(dependencies, one) {
+        if let Some(other) = other_name_if_aliased(&aliased, dependencies, one) {
             return Err(two_names(alloc, package.id, one, other)?);
         }
     }

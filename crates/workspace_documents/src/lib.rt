@@ -1,6 +1,7 @@
 //! The packages of a workspace as `cargo metadata` writes them, and where their declarations lead.
 #![tactic(auto)]
 
+mod aliases;
 mod dependencies;
 mod leads;
 mod names;

@@ -1,9 +1,10 @@
 -- Trees of the packages that a plan builds, as text or as JSON objects.
-use Rattle.std.specs.Prelude.{◌≡◌, ◌==◌, ℕ, List, Option, AllPairs, IsPermutation, map}
+use Rattle.std.specs.Prelude.{◌≡◌, ◌==◌, ◌++◌, ℕ, List, [], Bool, true, false, Option, Some, None, AllPairs, IsPermutation, map}
 use Rattle.cargo_workspaces.specs.Workspaces.{Text, PackageText}
 use Rattle.feats_words.specs.declared.command_arguments.Format.{Format}
 use Rattle.feats_words.specs.declared.command_arguments.Format.TheVariants as format
-use Rattle.feats_tree.specs.trees.Branches.{AreBranches}
+use Rattle.feats_tree.specs.trees.Branches.{AreBranches, is_cut}
+use Rattle.feats_tree.specs.trees.Cuts.{cut_line, cut_object, limit_of}
 use Rattle.feats_tree.specs.trees.Lines.{branch_lines}
 use Rattle.feats_tree.specs.trees.Objects.{branch_objects}
 use Rattle.feats_tree.specs.trees.Reversals.{IsNoLater, turned}
@@ -19,11 +20,22 @@ abbrev pub branches_text : Format → List TitleText → List Branch → Text
 branches_text format.Text titles branches = branch_lines titles branches
 branches_text format.Json titles branches = branch_objects titles branches
 
--- The text of the trees of these roots.
+-- The line that says that the trees go on below the greatest depth.
+abbrev pub cut_text : Format → Text
+cut_text format.Text = cut_line
+cut_text format.Json = cut_object
+
+-- What follows the branches: that line, if no limit is given and the trees are cut.
+abbrev pub end_text : Format → Option ℕ → Bool → Text
+end_text form None true = cut_text form
+end_text form None false = []
+end_text form (Some limit) cut = []
+
+-- The text of the trees of these roots, to the limit or to the greatest depth.
 pub record IsTreeText (form : Format) (links : List (ℕ × ℕ)) (roots : List ℕ) (limit : Option ℕ) (titles : List TitleText) (text : Text) : Type 0 where
   pub branches : List Branch
-  pub are_branches : AreBranches links roots limit branches
-  pub is_text : text ≡ branches_text form titles branches
+  pub are_branches : AreBranches links roots (Some (limit_of limit)) branches
+  pub is_text : text ≡ branches_text form titles branches ++ end_text form limit (is_cut links (Some (limit_of limit)) branches)
 
 -- THE TREES of the packages of a plan: their roots are what is started, and below each package is what it depends on.
 pub record IsPackageTree (form : Format) (names : List Text) (packages : List PackageText) (plan : PlanText) (limit : Option ℕ) (text : Text) : Type 0 where

@@ -39,6 +39,14 @@ abbrev pub goes_on : ℕ → List Branch → Bool
 goes_on level [] = false
 goes_on level (b ∷ after) = if nat_lt level b.depth then goes_on level after else b.depth == level
 
+-- Whether the node has links that are shown below none of the branches: all its branches are at the limit.
+abbrev pub is_hiding : List (ℕ × ℕ) → Option ℕ → List Branch → ℕ → Bool
+is_hiding links limit branches node = not (is_expanded_in limit branches node) && not (is_empty (ends_of links node))
+
+-- Whether the limit cuts the trees: the node of some branch has links that aren't shown.
+abbrev pub is_cut : List (ℕ × ℕ) → Option ℕ → List Branch → Bool
+is_cut links limit branches = list_any (λ b. is_hiding links limit branches b.node) branches
+
 -- The first branch isn't deeper than this depth, and each other is at most one level deeper than the branch before it.
 abbrev pub StepsFrom : ℕ → List Branch → Type 0
 StepsFrom depth [] = ⊤

@@ -35,7 +35,7 @@ fn asked_tree(
 }
 
 /// Returns the trees of the features that are on in `plan`: the roots are what the command line turns on, and below each is what it turns
-/// on. If `sides` is true, ` (host)` follows what is on for the host. Nothing is deeper than `limit`. An allocation's failure is the only
+/// on. If `sides` is true, ` (host)` follows what is on for the host. `limit` is as in `titled_text`. An allocation's failure is the only
 /// error.
 pub fn feature_tree(
     alloc: Global,
@@ -74,7 +74,7 @@ fn turned_tree(
 }
 
 /// Returns the trees of those of `wanted` that are on in `plan`, where below each spot is what turns it on. If `sides` is true, ` (host)`
-/// follows what is on for the host. Nothing is deeper than `limit`. The text is empty if none is on. An allocation's failure is the only
+/// follows what is on for the host. `limit` is as in `titled_text`. The text is empty if none is on. An allocation's failure is the only
 /// error.
 pub fn inverted_feature_tree(
     alloc: Global,

@@ -1,5 +1,5 @@
 //! The text of trees.
-ghost use Rattle.std.specs.Prelude.{◌≡◌, IfOk, map, string_bytes};
+ghost use Rattle.std.specs.Prelude.{◌≡◌, ◌++◌, IfOk, map, string_bytes};
 ghost use Rattle.cargo_workspaces.specs.Views.{package_text, texts};
 ghost use Rattle.feats_tree.specs.trees.Branches.{AreTrees};
 ghost use Rattle.feats_tree.specs.trees.Titles.{title_text};
@@ -9,7 +9,9 @@ ghost use Rattle.feats_tree.specs.packages.Trees as spec;
 
 use crate::packages::ids::{ids_of, titles_with};
 use crate::packages::titles::titles_of;
-use crate::trees::{Branch, Title, branch_lines, branch_objects, branches};
+use crate::trees::{
+    Branch, Title, branch_lines, branch_objects, branches, limit_of, with_cut_line, with_cut_object,
+};
 use cargo_plans::plan_steps::Unit;
 use cargo_workspaces::Package;
 use feats_words::Format;
@@ -31,6 +33,37 @@ fn branches_text(
     }
 }
 
+/// Returns `text` with the line that says that the trees go on below the greatest depth.
+fn with_cut(form: Format, text: Vec<u8>) -> Result<Vec<u8>, AllocError>
+    ensures { IfOk result (λ new. new.items ≡ text.items ++ spec.cut_text form) }
+{
+    match form {
+        Format::Text => with_cut_line(text),
+        Format::Json => with_cut_object(text),
+    }
+}
+
+/// Returns `text` with that line, if there is no `limit` and the trees are cut.
+fn with_end(
+    form: Format,
+    text: Vec<u8>,
+    limit: Option<usize>,
+    is_cut: bool,
+) -> Result<Vec<u8>, AllocError>
+    ensures { IfOk result (λ new. new.items ≡ text.items ++ spec.end_text form limit is_cut) }
+{
+    match limit {
+        Some(_) => Ok(text),
+        None => {
+            if is_cut {
+                with_cut(form, text)
+            } else {
+                Ok(text)
+            }
+        }
+    }
+}
+
 /// Returns the text of the trees of `roots`.
 fn tree_text(
     alloc: Global,
@@ -42,12 +75,14 @@ fn tree_text(
 ) -> Result<Vec<u8>, AllocError>
     ensures { IfOk result (λ text. spec.IsTreeText form links.now roots.now limit (map title_text titles.now) text.items) }
 {
-    let branches = branches(alloc, links, roots, limit)?;
-    branches_text(alloc, form, &branches, titles)
+    let trees = branches(alloc, links, roots, Some(limit_of(limit)))?;
+    let text = branches_text(alloc, form, &trees.branches, titles)?;
+    with_end(form, text, limit, trees.is_cut)
 }
 
 /// Returns the text of the trees of `roots` over `links`, or their JSON objects. Node number `k` has the title and the id with this number.
-/// Nothing is deeper than `limit`. An allocation's failure is the only error.
+/// Nothing is deeper than `limit`, or without one than 1,000: if that hides links, a last line says so. An allocation's failure is the only
+/// error.
 pub fn titled_text(
     alloc: Global,
     form: Format,

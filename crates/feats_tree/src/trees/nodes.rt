@@ -60,6 +60,16 @@ pub(crate) fn was_shown(nodes: &[Node], number: usize) -> bool
     }
 }
 
+/// Returns true if node `number` has links that weren't shown.
+pub(crate) fn is_hiding(nodes: &[Node], number: usize) -> bool
+    ensures { result ≡ spec.is_hiding_at nodes.now number }
+{
+    match nodes.get(number) {
+        Some(node) => !node.ends.is_empty(),
+        None => false,
+    }
+}
+
 /// Returns the ends of the links of `node`, which are shown from then on.
 fn take_ends(alloc: Global, node: &mut Node) -> Vec<usize>
     ensures taken { result.items ≡ node.old.ends.items }

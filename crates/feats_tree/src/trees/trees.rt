@@ -1,10 +1,12 @@
 //! The branches of trees.
 ghost use Rattle.std.specs.Prelude.{◌≡◌, ◌++◌, ◌+◌, ℕ, List, map, None, IfOk, OnOk};
-ghost use Rattle.feats_tree.specs.trees.Branches.{AreBranches, goes_below};
+ghost use Rattle.std.specs.List.{list_any};
+ghost use Rattle.feats_tree.specs.trees.Branches.{AreBranches, goes_below, is_cut};
 ghost use Rattle.feats_tree.specs.trees.Reach.{HaveAll};
+ghost use Rattle.feats_tree.specs.trees.inner.Nodes.{is_hiding_at};
 ghost use Rattle.feats_tree.specs.trees.inner.Walks.{Takes, branch_at, shown_branch, waits_of};
 
-use crate::trees::nodes::{Node, nodes_of, take_at, was_shown};
+use crate::trees::nodes::{Node, is_hiding, nodes_of, take_at, was_shown};
 use crate::trees::waiting::{Waiting, is_last, push_all};
 use std::alloc::{AllocError, Global};
 
@@ -19,6 +21,14 @@ pub struct Branch {
     pub is_last: bool,
     /// True if the node has links, and they are shown below a branch before this one.
     pub is_again: bool,
+}
+
+/// Trees, as the list of their branches.
+#[derive(Drop)]
+pub struct Trees {
+    pub branches: Vec<Branch>,
+    /// True if the node of some branch has links that the limit hides: they are shown below no branch.
+    pub is_cut: bool,
 }
 
 /// Returns true if the links of a node at `depth` may be shown.
@@ -72,18 +82,31 @@ fn show(
     Ok(branch)
 }
 
+/// Returns true if the node of one of `branches` has links that weren't shown.
+fn is_any_hiding(nodes: &[Node], branches: &[Branch]) -> bool
+    ensures { result ≡ list_any (λ b. is_hiding_at nodes.now b.node) branches.now }
+{
+    for branch in branches {
+        if is_hiding(nodes, branch.node) {
+            return true;
+        }
+    }
+    false
+}
+
 /// Returns the branches of the trees of `roots`, in the order in which `cargo tree` prints them. Below a branch are the ends of its node's
 /// links, in the order of `links`; if they are shown below an earlier branch, they aren't shown again. With a `limit` no branch is
 /// deeper: 1 shows the roots and the ends of their links. A node whose first branch is at the limit is expanded at its first branch above
-/// the limit. Memory grows with the greatest start of a link.
+/// the limit. `is_cut` says whether the limit hides links. Memory grows with the greatest start of a link.
 pub fn branches(
     alloc: Global,
     links: &[(usize, usize)],
     roots: &[usize],
     limit: Option<usize>,
-) -> Result<Vec<Branch>, AllocError>
-    ensures branches { IfOk result (λ branches. AreBranches links.now roots.now limit branches.items) }
-    ensures all { IfOk result (λ branches. limit ≡ None → HaveAll links.now roots.now branches.items) }
+) -> Result<Trees, AllocError>
+    ensures branches { IfOk result (λ trees. AreBranches links.now roots.now limit trees.branches.items) }
+    ensures all { IfOk result (λ trees. limit ≡ None → HaveAll links.now roots.now trees.branches.items) }
+    ensures cut { IfOk result (λ trees. trees.is_cut ≡ is_cut links.now limit trees.branches.items) }
 {
     let mut nodes = nodes_of(alloc, links)?;
     let mut waiting = Vec::new(alloc);
@@ -93,5 +116,9 @@ pub fn branches(
         let branch = show(alloc, limit, &mut nodes, &mut waiting, next)?;
         shown.push(branch)?;
     }
-    Ok(shown)
+    let is_cut = is_any_hiding(&nodes, &shown);
+    Ok(Trees {
+        branches: shown,
+        is_cut,
+    })
 }

@@ -8,6 +8,10 @@ use Rattle.feats_tree.specs.declared.trees.nodes.Node.{Node}
 abbrev pub ends_at : List Node → ℕ → List ℕ
 ends_at nodes number = option_map_or (λ n. n.ends.items) (slice_get nodes number) []
 
+-- Whether a node has links that aren't shown.
+abbrev pub is_hiding_at : List Node → ℕ → Bool
+is_hiding_at nodes number = not (is_empty (ends_at nodes number))
+
 -- Whether a node has links and they were shown.
 abbrev pub shown_at : List Node → ℕ → Bool
 shown_at nodes number = option_map_or (λ n. n.is_shown) (slice_get nodes number) false

@@ -1,5 +1,10 @@
-use Rattle.std.proofs.Common.{◌≡◌, ◌∙◌, ◌-◌, ap, subst, take, append-nil, [], ℕ, Option}
+use Rattle.std.proofs.Common.{◌≡◌, ◌∙◌, ◌-◌, ap, ap₂, subst, take, append-nil, [], ℕ, List, Option}
+use Rattle.std.specs.List.{list_any}
 use Rattle.feats_tree.specs.trees.Branches.{AreBranches}
+use Rattle.feats_tree.specs.trees.inner.Nodes.{is_hiding_at}
+use Rattle.feats_tree.specs.declared.trees.nodes.Node.{Node}
+use Rattle.feats_tree.specs.declared.trees.trees.Branch.{Branch}
+use Rattle.feats_tree.proofs.CutLemmas.{walk_cut}
 use Rattle.feats_tree.proofs.ReachLemmas.{have_all}
 use Rattle.feats_tree.proofs.WalkLemmas.{begun, ended, fewer, stepped}
 use Rattle.feats_tree.proofs.trees.trees.branches.Goals as goal
@@ -31,3 +36,8 @@ pub returns-clause-all : goal.returns-clause-all
 returns-clause-all c = λ no_limit.
     have_all c.args.links.now c.args.roots.now c.loop-next.shown.items
     (subst (λ (z : Option ℕ). AreBranches c.args.links.now c.args.roots.now z c.loop-next.shown.items) no_limit (are_branches c))
+
+pub returns-clause-cut : goal.returns-clause-cut
+returns-clause-cut c =
+    c.is_any_hiding.ensures ∙ ap₂ (λ (nodes : List Node) (branches : List Branch). list_any (λ b. is_hiding_at nodes b.node) branches) c.deref.ensures.value c.deref-2.ensures.value
+    ∙ walk_cut c.args.links.now c.args.roots.now c.args.limit c.loop-next.nodes.items c.loop-next.shown.items _ c.loop-next.invariant

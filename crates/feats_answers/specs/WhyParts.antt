@@ -1,0 +1,40 @@
+-- The parts that a word of `why` names.
+use Rattle.std.specs.Prelude.{◌≡◌, ℕ, List, [], ◌∷◌, Bool, ◌||◌, Result, Ok, Err, filter}
+use Rattle.cargo_plans.specs.Plans.{AfterWords, WordsText}
+use Rattle.cargo_plans.specs.built_parts.Built.{is_part_built}
+use Rattle.cargo_plans.specs.plan_steps.Plans.{PlanText}
+use Rattle.cargo_workspaces.specs.Workspaces.{Text, WorkspaceText}
+use Rattle.feature_labels.specs.Names.{LabelName}
+use Rattle.plan_names.specs.Faults.{NameRefusal, several}
+use Rattle.plan_names.specs.Matches.{parts_matching}
+use Rattle.plan_names.specs.Names.{NamedText}
+use Rattle.plan_rows.specs.declared.side.Side.{Side}
+use Rattle.plan_rows.specs.declared.side.Side.TheVariants.{Target, Host}
+use Rattle.feats_answers.specs.NameMessages.{IsNameRefusal}
+use Rattle.feats_answers.specs.Parts.{label_of_part}
+
+-- Whether a part is built on a side. `built side p label` is whether a part of package `p` is built.
+abbrev pub is_anywhere : (Side → ℕ → LabelName → Bool) → NamedText → Bool
+is_anywhere built part = built Target part.owner (label_of_part part.part) || built Host part.owner (label_of_part part.part)
+
+-- These parts, which are those of the candidates that are built; without any, the word has several meanings.
+abbrev pub those_or_several : Text → List NamedText → List NamedText → Result (List NamedText) NameRefusal
+those_or_several word candidates [] = Err (several word candidates)
+those_or_several word candidates (part ∷ parts) = Ok (part ∷ parts)
+
+-- Of several candidates those that pass the test.
+abbrev pub named_where : (NamedText → Bool) → Result (List NamedText) NameRefusal → Result (List NamedText) NameRefusal
+named_where test (Err (several word candidates)) = those_or_several word candidates (filter test candidates)
+named_where test given = given
+
+-- The parts that the word names as the word of a rule; of several candidates those that are built, if there are any.
+abbrev pub why_parts : WorkspaceText → WordsText → PlanText → List ℕ → Text → Result (List NamedText) NameRefusal
+why_parts w words plan selected word =
+    named_where (is_anywhere (is_part_built words.selection.split plan)) (parts_matching w.packages selected word)
+
+abbrev pub AreWhyParts : WorkspaceText → WordsText → PlanText → Text → List NamedText → Type 0
+AreWhyParts w words plan word parts = AfterWords w words (λ chosen. why_parts w words plan chosen.selected word ≡ Ok parts)
+
+-- The message why the word names none, or several of which none is built.
+abbrev pub IsWhyRefusal : WorkspaceText → WordsText → PlanText → Text → Text → Type 0
+IsWhyRefusal w words plan word message = AfterWords w words (λ chosen. IsNameRefusal w.packages (why_parts w words plan chosen.selected word) message)
