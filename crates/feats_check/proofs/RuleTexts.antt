@@ -1,9 +1,10 @@
 -- The texts of broken rules, from what explains their spots.
-use Rattle.std.proofs.Common.{◌≡◌, ◌∙◌, ℕ, ◌+◌, ◌<◌, List, [], ◌∷◌, ◌++◌, Bool, true, Option, Some, None, refl, sym, ap, add-one, append_assoc, drop, drop-cons, get_or, length, map, take, String}
+use Rattle.std.proofs.Common.{◌≡◌, ◌∙◌, ℕ, ◌+◌, ◌<◌, List, [], ◌∷◌, ◌++◌, Bool, true, Option, Some, None, refl, sym, ap, add-one, append_assoc, arith, drop, drop-cons, get_or, length, map, take, String}
 use Rattle.std.specs.Prelude.{flat_map, nat_eq}
 use Rattle.std.specs.List.{AllZip, drop-map, take-map}
 use Rattle.std.specs.String.{string_bytes}
 use Rattle.std.specs.declared.alloc.Global.{Global}
+use Rattle.std.proofs.lemmas.Bool.{eqb-true}
 use Rattle.std.proofs.lemmas.List.{length-map}
 use Rattle.cargo_plans.specs.Plans.{WordsText}
 use Rattle.cargo_workspaces.specs.Workspaces.{PackageText, Text}
@@ -11,7 +12,7 @@ use Rattle.plan_whys.specs.StepViews.{spot_text}
 use Rattle.plan_whys.specs.Steps.{WhyText}
 use Rattle.plan_whys.specs.Whys.{AnswersBy}
 use Rattle.feats_why.specs.Lines.{why_lines}
-use Rattle.feats_why.specs.Settings.{settings_of}
+use Rattle.feats_why.specs.Settings.{SettingsText, settings_of}
 use Rattle.feats_policies.specs.Rules.{RuleText}
 use Rattle.feats_policies.specs.Views.{rule_text as rule_view}
 use Rattle.feats_policies.specs.checks.Checks.{VerdictText}
@@ -86,9 +87,15 @@ module _ (packages : List PackageText) (words : WordsText) where
   found_one (Some steps) = refl
 
   -- the lines of what was found of each spot
-  pub found_each : (fs : List (Option (List WhyText))) → map (why_lines packages (settings_of words)) (map steps_or_none fs) ≡ map (found_lines packages words) fs
+  found_each : (fs : List (Option (List WhyText))) → map (why_lines packages (settings_of words)) (map steps_or_none fs) ≡ map (found_lines packages words) fs
   found_each [] = refl
   found_each (f ∷ fs) = ap (λ z. z ∷ map (why_lines packages (settings_of words)) (map steps_or_none fs)) (found_one f) ∙ ap (λ z. found_lines packages words f ∷ z) (found_each fs)
+
+  -- the same, by equal settings and lists
+  pub founds_lined : (s : SettingsText) (fs : List (Option (List WhyText))) (lists : List (List WhyText)) (lines : List Text) → s ≡ settings_of words → lists ≡ map steps_or_none fs
+      → lines ≡ map (why_lines packages s) lists → lines ≡ map (found_lines packages words) fs
+  founds_lined s fs lists lines same are lined =
+      lined ∙ ap (λ z. map (why_lines packages z) lists) same ∙ ap (map (why_lines packages (settings_of words))) are ∙ found_each fs
 
   -- the lines of all rules
   pub lines_texts : (file : Text) (judged : Judged) (vs : List VerdictText) (fs : List (Option (List WhyText))) (lines : List Text) → lines ≡ map (found_lines packages words) fs
@@ -101,4 +108,4 @@ module _ (packages : List PackageText) (words : WordsText) where
 -- no rule is broken
 pub none_printed : {X : Type 0} (asked : QuestionText) (s : SceneText) (view : X → VerdictText) (xs : List X) (text : Text) → nat_eq (length xs) 0 ≡ true → text ≡ [] → ArePrinted asked (map (broken_in s) (map view xs)) text
 none_printed asked s view [] text h none = none
-none_printed asked s view (x ∷ xs) text h none = cc
+none_printed asked s view (x ∷ xs) text h none = absurd (omega (arith, eqb-true (length (x ∷ xs)) 0 h))
