@@ -23,22 +23,19 @@ joined_at f ws (e ∷ es) = by_way f e (slice_get ws e) ++ joined_at f ws es
 
 -- the list by all ways, if it's that by the ways that pass
 module _ {Y : Type 0} (f : ℕ → Way → List Y) (p : Way → Bool) (none : (e : ℕ) (w : Way) → p w ≡ false → f e w ≡ []) (all : List Way) where
+  one_more : (k : ℕ) (w : Way) (ws : List Way) → slice_get all k ≡ Some w → joined_at f all (numbers_where p (suc k) ws) ≡ joined_from f (k + 1) ws
+      → (b : Bool) → p w ≡ b → joined_at f all (if b then k ∷ numbers_where p (suc k) ws else numbers_where p (suc k) ws) ≡ f k w ++ joined_from f (k + 1) ws
+  one_more k w ws here later true is = ap (λ o. by_way f k o ++ joined_at f all (numbers_where p (suc k) ws)) here ∙ ap (λ l. f k w ++ l) later
+  one_more k w ws here later false is = later ∙ ap (λ l. l ++ joined_from f (k + 1) ws) (sym (none k w is))
+
   pub joined_where : (k : ℕ) (ws : List Way) → ((i : ℕ) (w : Way) → slice_get ws i ≡ Some w → slice_get all (k + i) ≡ Some w) → joined_at f all (numbers_where p k ws) ≡ joined_from f k ws
   joined_where k [] are = refl
-  joined_where k (w ∷ ws) are = go (p w) refl
-    where
-      next : suc k ≡ k + 1
-      next = omega arith
-
-      here : slice_get all k ≡ Some w
-      here = subst (λ e. slice_get all e ≡ Some w) (omega arith) (are 0 w refl)
-
-      later : joined_at f all (numbers_where p (suc k) ws) ≡ joined_from f (k + 1) ws
-      later = joined_where (suc k) ws (λ i v at. subst (λ e. slice_get all e ≡ Some v) (omega arith) (are (suc i) v at)) ∙ ap (λ m. joined_from f m ws) next
-
-      go : (b : Bool) → p w ≡ b → joined_at f all (if b then k ∷ numbers_where p (suc k) ws else numbers_where p (suc k) ws) ≡ f k w ++ joined_from f (k + 1) ws
-      go true is = ap (λ o. by_way f k o ++ joined_at f all (numbers_where p (suc k) ws)) here ∙ ap (λ l. f k w ++ l) later
-      go false is = later ∙ ap (λ l. l ++ joined_from f (k + 1) ws) (sym (none k w is))
+  joined_where k (w ∷ ws) are =
+      let next : suc k ≡ k + 1 = omega arith in
+      let here : slice_get all k ≡ Some w = subst (λ e. slice_get all e ≡ Some w) (omega arith) (are 0 w refl) in
+      let later : joined_at f all (numbers_where p (suc k) ws) ≡ joined_from f (k + 1) ws =
+          joined_where (suc k) ws (λ i v at. subst (λ e. slice_get all e ≡ Some v) (omega arith) (are (suc i) v at)) ∙ ap (λ m. joined_from f m ws) next in
+      one_more k w ws here later (p w) refl
 
 -- the same numbers in both directions
 abbrev AreTurned : List Way → List Way → Type 0
@@ -73,7 +70,7 @@ number_step c d f n place number old new reverse at more =
     let rest = joined_at f c.ways (drop (place + 1) (starting d n)) in
     ap (λ l. l ++ rest) (more w.0 w.1)
     ∙ append_assoc old (f number w.0) rest
-    ∙ ap (λ o. old ++ by_way f number o ++ rest) (sym w.1)
+    ∙ ap (λ o. old ++ (by_way f number o ++ rest)) (sym w.1)
     ∙ ap (λ l. old ++ joined_at f c.ways l) (sym (drop_at (starting d n) place number at))
 
 -- nothing is left past the last number

@@ -1,11 +1,14 @@
-use Rattle.std.proofs.Common.{◌∙◌, arith, sym}
+use Rattle.std.proofs.Common.{◌∙◌, ◌++◌, ap, arith, sym}
+use Rattle.walk_engine.specs.Walks.{starting}
 use Rattle.digraphs.specs.Bits.{has}
 use Rattle.plan_whys.specs.Reasons.{all_reasons, reasons_by}
-use Rattle.plan_whys.proofs.LeadingWays.{number_step, reasons_back, whole_at, whole_past}
+use Rattle.plan_whys.proofs.LeadingWays.{joined_at, number_step, reasons_back, whole_at, whole_past}
 use Rattle.plan_whys.proofs.direct_reasons.all_reasons.Goals as goal
 
 pub loop-place-init : goal.loop-place-init
-loop-place-init c = reasons_back c.args.table.now.holds c.args.back.now.holds (has c.args.members.now) c.args.node c.requires.reverse
+loop-place-init c =
+    ap (λ l. l ++ joined_at (reasons_by (has c.args.members.now) c.args.node) c.args.table.now.holds.ways (starting c.args.back.now.holds c.args.node)) c.new-found.ensures.items
+    ∙ reasons_back c.args.table.now.holds c.args.back.now.holds (has c.args.members.now) c.args.node c.requires.reverse
 
 pub loop-place-preserved : goal.loop-place-preserved
 loop-place-preserved c =

@@ -16,7 +16,7 @@ pub all_reasons-requires-clause-reverse : goal.all_reasons-requires-clause-rever
 all_reasons-requires-clause-reverse c =
     let b = c.built-built.result.now in
     let built : IsBuilt c.packages.result.now b = subst (λ (t : Tables). IsBuilt t b) (sym c.packages.ensures) c.built-built.ensures in
-    tables_reverse b c.new-table.result c.new-back.result c.new-table.ensures c.new-back.ensures (c.content_of_graph.ensures.reverse b built)
+    tables_reverse b c.new-table.result c.new-back.result c.new-table.ensures c.new-back.ensures (c.content_of_graph.ensures.reverse b)
 
 pub reasons_by_spots-requires : goal.reasons_by_spots-requires
 reasons_by_spots-requires c =
