@@ -137,6 +137,18 @@ limit_of() {
   grep -v '^$' -- "$1" | tail -n 1 | cut -c 1-200
 }
 
+# Prints which program of a crate is current: `proved`, or `kept` for the one without proofs, which is made if it isn't there. Prints
+# nothing if neither can be run.
+current_build() {
+  local why
+  why=$(why_not_current "$1")
+  if [ -z "$why" ]; then
+    echo proved
+  elif keep_unproved "$1" "$why"; then
+    echo kept
+  fi
+}
+
 # Runs the proved program of a crate if it is current, and else the one without proofs. Returns if neither can be run, and says why. The
 # arguments are the crate and the program's own.
 run_built() {
@@ -262,6 +274,11 @@ launch_feats() {
     echo "feats: cannot write the answer" >&2
     exit 2
   }
+  # (cargo-feats, which calls ./feats several times, has looked)
+  case ${FEATS_BUILD-} in
+    proved) exec "$top/crates/feats/out/feats" "$@" ;;
+    kept) run_kept feats "$@" ;;
+  esac
   run_built feats "$@"
   if ! are_text "$@"; then
     echo "feats: a word of the command line isn't UTF-8: rename the file" >&2

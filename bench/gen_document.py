@@ -18,6 +18,7 @@ or 1.0.0:
   features         the member has N features, and its default feature turns on each
   feature-chain    the member has N features, each turns on the next, and its default feature the first
   mostly-features  the member has N features that turn on nothing, and no default feature
+  items            the member depends on N packages as in `uses`, and each of its 100 features has an item for each of them
   members          N members; each has a feature and a dependency of its own, and depends on two of eight packages, with a feature of each
   repeated         the member declares one dependency N times, each with a platform spec that holds and a feature of its own
 
@@ -34,6 +35,8 @@ EXAMPLE = Path(__file__).resolve().parent.parent / 'examples/cli.metadata.json'
 REGISTRY = 'registry+https://github.com/rust-lang/crates.io-index'
 # The packages on which `members` depend, and the features of each.
 SHARED = 8
+# The features of the member of `items`.
+LISTS = 100
 # What a package has that is depended on with its default features.
 FEATURES = {'default': ['f'], 'f': []}
 
@@ -127,6 +130,11 @@ def mostly_features(n):
     return [member(features={f'f{i:06}': [] for i in range(n)})]
 
 
+def items(n):
+    first, *others = uses(n)
+    return [first._replace(features={f'x{k}': [f'p{i}/f' for i in range(n)] for k in range(LISTS)}), *others]
+
+
 def members(n):
     def one(i):
         first, second = i % SHARED, (i + 1) % SHARED
@@ -144,7 +152,7 @@ def repeated(n):
     return [member(Declaration('p', (f'f{i}',), f'cfg(any(unix, target_os = "os{i}"))') for i in range(n)), Package('p', [], {'default': [], **own})]
 
 
-FAMILIES = {it.__name__.replace('_', '-'): it for it in (uses, specs, chain, features, feature_chain, mostly_features, members, repeated)}
+FAMILIES = {it.__name__.replace('_', '-'): it for it in (uses, specs, chain, features, feature_chain, mostly_features, items, members, repeated)}
 
 
 def family_of(family, n, version='1.0.0'):

@@ -75,6 +75,10 @@ def word_faults():
     yield 'a resolver', [*usual, '--resolver', '4'], "`4` isn't a version of the resolver: write 1, 2 or 3"
     yield 'two resolvers', [*usual, '--resolver', '1', '--manifest', '{none}'], '--resolver and a manifest are both given: leave one out'
     yield 'a format', [*usual, '--format', 'xml'], "`xml` isn't a format: write text or json"
+    alone = '`--exclude` leaves members out of all members: write --workspace too'
+    for name, words in (('default members', []), ('a package', ['-p', 'a']), ('a package and all features', ['-p', 'a', '--all-features'])):
+        yield f'excluded from {name}', [*usual, *words, '--exclude', 'a'], alone
+    yield 'excluded in one of two builds', ['diff', *usual[1:], '--', '--workspace', '--exclude', 'a', '--', '--exclude', 'a'], alone
     for word in ('json', 'text', 'xml'):
         yield f'the format {word} of dot', ['dot', *usual[1:], '--format', word], '`dot` prints a graph for Graphviz: leave --format out'
 
@@ -131,9 +135,11 @@ def plan_faults(cases):
     needs = 'features are asked for, and no selected package is a member of the workspace: select a member, or leave the features out'
     at = 'path+file:///w'
     spec = "write NAME, NAME@VERSION, an id, or a pattern of members' names with `*`"
+    none = 'no package is selected: the workspace has no default members, no members at all, or all are excluded; select packages by -p or --workspace'
     for word in ([], ['-F', 'no']):
-        yield f'no selected package{"".join(word)}', cases['no-default'], word, (
-            'no package is selected: the workspace has no default members, no members at all, or all are excluded; select packages by -p or --workspace')
+        yield f'no selected package{"".join(word)}', cases['no-default'], word, none
+    for words in (['*'], ['client', 'server', 'tool'], ['*er', 'client*', 'tool@0.1.0', 'nobody']):
+        yield f'all members but {words}', command, ['--workspace', *(it for word in words for it in ('--exclude', word))], none
     yield 'no package', command, ['-p', 'nobody'], f'no package of the document fits `nobody`: {spec}'
     yield 'the second word', command, ['-p', 'tool', '-p', 'tool@2'], f'no package of the document fits `tool@2`: {spec}'
     yield 'a pattern', command, ['-p', 'tool', '-p', 'x*'], f'no package of the document fits `x*`: {spec}'

@@ -215,11 +215,12 @@ class Selection(NamedTuple):
     targets: list
     is_split: bool
     words: list             # of -p; None: none are given
-    is_workspace: bool
+    is_workspace: bool      # then the words of -p have no meaning
     features: list
     is_all: bool
     no_default: bool
     is_test: bool
+    excluded: list = ()     # the words of --exclude, with `is_workspace`
 
     def platforms(self):
         return self.targets or [self.host]
@@ -267,18 +268,24 @@ def selected_by(document, word):
     return fitting
 
 
+def members_but(document, words):
+    """The members that no word of `--exclude` names or fits."""
+    excluded = {id for word in words for id in packages_named(document, word) + members_fitting(document, word)}
+    return [id for id in document.members if id not in excluded]
+
+
 def is_ambiguous(value, words):
-    """Whether a word of `-p` names several packages of the document. Cargo may know but one of them (docs/PLANS.md)."""
-    return any(len(packages_named(document_of(value), word)) > 1 for before, word in zip(words, words[1:]) if before == '-p')
+    """Whether a word of `-p` that has a meaning names several packages of the document. Cargo may know but one of them (docs/PLANS.md)."""
+    return '--workspace' not in words and any(len(packages_named(document_of(value), word)) > 1 for before, word in zip(words, words[1:]) if before == '-p')
 
 
 def selected_packages(document, selection):
-    if selection.words is None:
-        selected = document.members if selection.is_workspace else document.default_members
-        if not selected:
-            raise Refused('no package is selected')
-        return selected
-    return [id for it in selection.words for id in selected_by(document, it)]
+    if selection.words is not None and not selection.is_workspace:
+        return [id for it in selection.words for id in selected_by(document, it)]
+    selected = members_but(document, selection.excluded) if selection.is_workspace else document.default_members
+    if not selected:
+        raise Refused('no package is selected')
+    return selected
 
 
 def item_of_word(package, word):
@@ -552,6 +559,7 @@ def words_of(argv):
     parser.add_argument('--target', action='append', default=[])
     parser.add_argument('--resolver', default='2', choices=('1', '2', '3'))
     parser.add_argument('-p', '--package', action='append')
+    parser.add_argument('--exclude', action='append', default=[])
     parser.add_argument('-F', '--features', action='append', default=[])
     for word in ('--workspace', '--all-features', '--no-default-features', '--tests'):
         parser.add_argument(word, action='store_true')
@@ -560,9 +568,12 @@ def words_of(argv):
 
 def selection_of(words, platforms=platform_of_word):
     """The selection of parsed words."""
+    if words.exclude and not words.workspace:
+        raise Refused('--exclude without --workspace')
     return Selection(
         platforms(words.host), [platforms(it) for it in words.target], words.resolver != '1', words.package, words.workspace,
-        [it for word in words.features for it in re.split('[ ,]+', word) if it], words.all_features, words.no_default_features, words.tests)
+        [it for word in words.features for it in re.split('[ ,]+', word) if it], words.all_features, words.no_default_features, words.tests,
+        words.exclude)
 
 
 def plan_of(document, words, platforms=platform_of_word):

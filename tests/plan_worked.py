@@ -308,6 +308,32 @@ WORKED = [
         Row('-p ?lpha', 'refused', cargo='target alpha', differs='a star is the only sign of a pattern'),
         Row('-p [ab]*', 'refused', cargo='target alpha; target apex; target beta; target leaf', differs='a star is the only sign of a pattern'),
     ]),
+    Worked('exclude', 'with `--workspace` a word of `--exclude` leaves out the members that it names or whose names fit it', [
+        member('alpha', Declared('apex', has_default=False), features={'f': []}), member('apex', features={'default': [], 'g': []}),
+        member('beta', leaf()), LEAF,
+    ], [
+        *(Row(f'--workspace {words}', 'target alpha; target apex default') for words in (
+            '--exclude beta', '--exclude b*', '--exclude beta@0.1', '--exclude beta:0.1.0', '--exclude file:///w/beta', '--exclude path+file:///w/beta#0.1.0',
+            '--exclude beta --exclude b*', '-p beta --exclude beta', '-p nobody --exclude beta')),
+        Row('--workspace --exclude a*', 'target beta; target leaf'),
+        Row('--workspace --exclude *a', 'target apex default'),
+        Row('--workspace --exclude alpha --exclude beta', 'target apex default'),
+        # (alpha depends on it)
+        Row('--workspace --exclude apex', 'target alpha; target apex; target beta; target leaf'),
+        Row('--workspace --exclude apex -F f', 'target alpha f; target apex; target beta; target leaf'),
+        Row('--workspace --exclude apex -F g', 'refused'),
+        *(Row(f'--workspace {words}', 'target alpha; target apex default; target beta; target leaf') for words in (
+            '-p beta', '--exclude nobody', '--exclude x*', '--exclude leaf', '--exclude beta@2', '--exclude beta@*', '--exclude bet')),
+        Row('--workspace --exclude *', 'refused'),
+        Row('--workspace --exclude a* --exclude beta', 'refused'),
+        Row('--exclude beta', 'refused'),
+        Row('-p alpha --exclude beta', 'refused'),
+        Row('--workspace --exclude ?lpha', 'target alpha; target apex default; target beta; target leaf', cargo='target apex default; target beta; target leaf',
+            differs='a star is the only sign of a pattern'),
+        Row('--workspace --exclude b**', 'target alpha; target apex default', cargo='refused', differs='two stars together are no pattern of cargo'),
+        Row('--workspace --exclude beta@x', 'target alpha; target apex default; target beta; target leaf', cargo='refused', differs='cargo refuses what no package can have'),
+        Row('--workspace -p nobody', 'target alpha; target apex default; target beta; target leaf', cargo='refused', differs='cargo refuses a word that fits no member'),
+    ]),
     Worked('urls', 'a word of `-p` may be the URL of a package, with or without its kind, and the package\'s name, version or both', [
         member('a', Declared('ext/folder'), Declared('vendor/old')), Package('ext/folder', 'other'), Package('ext/leaf', 'leaf'),
         member('b', Declared('ext/leaf')), Package('vendor/old', 'old'),

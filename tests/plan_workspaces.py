@@ -12,6 +12,7 @@ cargo refuses the others or ignores them.
 import json
 import shutil
 from dataclasses import dataclass, field
+from functools import partial
 from pathlib import Path
 from typing import NamedTuple
 
@@ -326,8 +327,8 @@ def package_word(numbers, package):
                            f'{package["name"]}@{package["version"].rsplit(".", numbers.one_of((1, 2)))[0]}'])
 
 
-def random_selection(numbers, document, with_others):
-    """The words of a selection. If `with_others`, some packages that are named aren't members."""
+def random_choice(numbers, document, with_others):
+    """The words that choose packages, and the ids of these packages. If `with_others`, some packages that are named aren't members."""
     packages, members = {it['id']: it for it in document['packages']}, document['workspace_members']
     words, chosen, way = [], document['workspace_default_members'], numbers.below(100)
     if way < 15:
@@ -337,6 +338,35 @@ def random_selection(numbers, document, with_others):
         if with_others and way > 60:
             chosen = chosen[1:] + [numbers.one_of(sorted(packages))]
         words = [word for it in chosen for word in ('-p', package_word(numbers, packages[it]))]
+    return words, chosen
+
+
+def excluded_word(numbers, package, packages):
+    """A word of `--exclude` that excludes a member: usually it alone, or by a pattern. Some exclude nothing."""
+    name, form = package['name'], numbers.below(100)
+    if form < 55:
+        return package_word(numbers, package)
+    if form < 85:
+        return numbers.one_of([f'{name[0]}*', f'*{name[-1]}', f'*{name[1]}*', f'{name[0]}*{name[-1]}', f'{name}*', f'*{name[2:]}'])
+    if form < 93:
+        return package_word(numbers, packages[numbers.one_of(sorted(packages))])
+    return numbers.one_of(['nothing', 'x*', '*', f'{name}@7', f'{name}@*', name[:-1]])
+
+
+def random_exclusion(numbers, document):
+    """The words that choose all members but some, and the ids of members that are probably chosen."""
+    packages, members = {it['id']: it for it in document['packages']}, document['workspace_members']
+    excluded = numbers.some_of(members, numbers.one_of((1, 1, 1, 2, 2, 3)))
+    words = [] if numbers.chance(3) else ['--workspace']
+    words += [word for it in excluded for word in ('--exclude', excluded_word(numbers, packages[it], packages))]
+    if numbers.chance(10):
+        # (it has no meaning)
+        words += ['-p', package_word(numbers, packages[numbers.one_of(sorted(packages))])]
+    return words, [it for it in members if it not in excluded] or members
+
+
+def with_features(numbers, document, words, chosen):
+    """The words, which choose packages, and more: of features, tests and targets."""
     is_all = numbers.chance(12)
     features = [] if is_all and numbers.chance(90) else random_features(numbers, document, chosen)
     if numbers.chance(50):
@@ -348,3 +378,21 @@ def random_selection(numbers, document, with_others):
     words += ['--tests'] if numbers.chance(50) else []
     targets = numbers.some_of(TRIPLES, numbers.one_of((0, 0, 1, 1, 2)))
     return words + [word for it in targets for word in ('--target', it)]
+
+
+def random_selection(numbers, document, with_others):
+    """The words of a selection. If `with_others`, some packages that are named aren't members."""
+    return with_features(numbers, document, *random_choice(numbers, document, with_others))
+
+
+def random_excluding(numbers, document):
+    """The words of a selection of all members but some."""
+    return with_features(numbers, document, *random_exclusion(numbers, document))
+
+
+# What draws the words of a selection from random numbers and a document, by the group.
+GROUPS = {
+    'random': partial(random_selection, with_others=False),
+    'others': partial(random_selection, with_others=True),
+    'excluded': random_excluding,
+}

@@ -159,12 +159,12 @@ class EveryPlatform:
 def widest_of(selection):
     """The widest selection: all members with all their features, tests, and a platform on which each spec holds."""
     every = EveryPlatform()
-    return selection._replace(words=None, is_workspace=True, is_all=True, no_default=False, is_test=True, host=every, targets=[every])
+    return selection._replace(words=None, is_workspace=True, excluded=(), is_all=True, no_default=False, is_test=True, host=every, targets=[every])
 
 
 def all_of(selection):
     """The selection of all members with all their features and tests, for the same platforms."""
-    return selection._replace(words=None, is_workspace=True, is_all=True, no_default=False, is_test=True)
+    return selection._replace(words=None, is_workspace=True, excluded=(), is_all=True, no_default=False, is_test=True)
 
 
 def judged(plans, rule):
