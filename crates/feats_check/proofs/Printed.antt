@@ -5,10 +5,9 @@ use Rattle.std.proofs.lemmas.Grind.{flat_map-append}
 use Rattle.std.proofs.lemmas.List.{map-append, take_more}
 use Rattle.cargo_workspaces.specs.Workspaces.{Text}
 use Rattle.feats_policies.specs.Rules.{RuleText}
-use Rattle.feats_check.specs.checking.Broken.{ArePrinted, BrokenText, IsBrokenText, IsRuleText, are_any, broken_by, broken_rules, unchecked_by, unchecked_rules}
+use Rattle.feats_check.specs.checking.Broken.{ArePrinted, BrokenText, IsRuleText, are_any, broken_by, broken_rules, unchecked_by, unchecked_rules}
 use Rattle.feats_check.specs.checking.Questions.{PrintedText, QuestionText}
 use Rattle.feats_check.specs.checking.Scenes.{ScenesText, judged}
-use Rattle.feats_check.specs.checking.inner.Grown.{Grows}
 
 -- one more item of a list
 pub map_more : {X Y : Type 0} (f : X → Y) (items : List X) (i : ℕ) (d : X) → i < length items → map f (take i items) ++ f (get_or items i d) ∷ [] ≡ map f (take (i + 1) items)
@@ -19,19 +18,6 @@ module _ (asked : QuestionText) where
   both_printed [] ys s t none more = subst (λ z. ArePrinted asked ys (z ++ t)) (sym none) more
   both_printed (x ∷ xs) ys s t (here, rest, is_here, are, all) more =
       (here, rest ++ t, is_here, both_printed xs ys rest t are more, ap (λ z. z ++ t) all ∙ append_assoc here rest t)
-
-  one_printed : (x : BrokenText) (t : Text) → IsBrokenText asked x t → ArePrinted asked (x ∷ []) t
-  one_printed x t is = (t, [], is, refl, sym (append-nil t))
-
-  -- one more broken rule
-  pub printed_more : {V W : Type 0} (f : W → BrokenText) (view : V → W) (items : List V) (i : ℕ) (d : V) (old new : Text) → i < length items
-      → ArePrinted asked (map f (map view (take i items))) old → Grows (IsBrokenText asked (f (view (get_or items i d)))) old new → ArePrinted asked (map f (map view (take (i + 1) items))) new
-  printed_more f view items i d old new within are grown =
-      let xs = map f (map view (take i items)) in
-      let x = f (view (get_or items i d)) in
-      let next : xs ++ x ∷ [] ≡ map f (map view (take (i + 1) items)) = sym (map-append f (map view (take i items)) (view (get_or items i d) ∷ [])) ∙ ap (map f) (map_more view items i d within) in
-      subst (λ z. ArePrinted asked z new) next
-      (subst (ArePrinted asked (xs ++ x ∷ [])) (sym grown.is_new) (both_printed xs (x ∷ []) old grown.appended are (one_printed x grown.appended grown.is_text)))
 
 any_of : {X : Type 0} (xs ys : List X) → are_any (xs ++ ys) ≡ (are_any xs || are_any ys)
 any_of [] ys = refl

@@ -4,6 +4,7 @@ mod answers;
 mod broken;
 mod lines;
 mod objects;
+mod parted;
 mod planned;
 mod question;
 mod rules;

@@ -1,12 +1,9 @@
-use Rattle.std.proofs.Common.{◌≡◌, ◌++◌, drop, flat_map, map}
-use Rattle.cargo_plans.specs.WordsView.{words_text}
-use Rattle.cargo_workspaces.specs.WorkspaceView.{workspace_text}
-use Rattle.plan_rows.specs.platforms.HeldSpecs.{holds_on}
-use Rattle.plan_whys.specs.StepViews.{found_text}
-use Rattle.feats_check.specs.checking.Whys.{after_gap}
+use Rattle.std.proofs.Common.{◌≡◌, ◌++◌, ◌∷◌, drop, flat_map, map}
+use Rattle.std.specs.String.{string_bytes}
+use Rattle.cargo_workspaces.specs.Workspaces.{Text}
 use Rattle.feats_check.proofs.checking.lines.push_others.Given as goal
 
-abbrev pub invariant-loop-found : goal.invariant-loop-found
-invariant-loop-found l =
-    let lines = flat_map (after_gap (workspace_text l.workspace).packages (words_text holds_on l.words)) in
-    l.initial.text.items ++ lines (map found_text l.founds) ≡ l.text.items ++ lines (map found_text (drop l.found-index l.founds))
+abbrev pub invariant-loop-lines : goal.invariant-loop-lines
+invariant-loop-lines l =
+    let after_gaps = flat_map (λ (t : Text). 10 ∷ t) in
+    l.initial.text.items ++ after_gaps (map string_bytes l.others) ≡ l.text.items ++ after_gaps (map string_bytes (drop l.lines-index l.others))
