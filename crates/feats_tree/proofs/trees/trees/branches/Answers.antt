@@ -39,5 +39,5 @@ returns-clause-all c = λ no_limit.
 
 pub returns-clause-cut : goal.returns-clause-cut
 returns-clause-cut c =
-    c.is_any_hiding.ensures ∙ ap₂ (λ (nodes : List Node) (branches : List Branch). list_any (λ b. is_hiding_at nodes b.node) branches) c.deref.ensures.value c.deref-2.ensures.value
+    c.is_any_hiding-is_cut.ensures ∙ ap₂ (λ (nodes : List Node) (branches : List Branch). list_any (λ b. is_hiding_at nodes b.node) branches) c.deref.ensures.value c.deref-2.ensures.value
     ∙ walk_cut c.args.links.now c.args.roots.now c.args.limit c.loop-next.nodes.items c.loop-next.shown.items _ c.loop-next.invariant
