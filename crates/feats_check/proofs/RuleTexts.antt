@@ -1,15 +1,13 @@
 -- The texts of broken rules, from what explains their spots.
-use Rattle.std.proofs.Common.{◌≡◌, ◌∙◌, ℕ, ◌+◌, ◌<◌, List, [], ◌∷◌, ◌++◌, Bool, true, Option, Some, None, refl, sym, ap, add-one, append_assoc, arith, drop, drop-cons, get_or, length, map, take, String}
+use Rattle.std.proofs.Common.{◌≡◌, ◌∙◌, ℕ, ◌+◌, ◌<◌, List, [], ◌∷◌, ◌++◌, true, Option, Some, None, refl, subst, sym, ap, add-one, append_assoc, arith, drop, drop-cons, get_or, length, map, take}
 use Rattle.std.specs.Prelude.{flat_map, nat_eq}
 use Rattle.std.specs.List.{AllZip, drop-map, take-map}
-use Rattle.std.specs.String.{string_bytes}
-use Rattle.std.specs.declared.alloc.Global.{Global}
 use Rattle.std.proofs.lemmas.Bool.{eqb-true}
 use Rattle.std.proofs.lemmas.List.{length-map}
 use Rattle.cargo_plans.specs.Plans.{WordsText}
 use Rattle.cargo_workspaces.specs.Workspaces.{PackageText, Text}
 use Rattle.plan_whys.specs.StepViews.{spot_text}
-use Rattle.plan_whys.specs.Steps.{WhyText}
+use Rattle.plan_whys.specs.Steps.{SpotText, WhyText}
 use Rattle.plan_whys.specs.Whys.{AnswersBy}
 use Rattle.feats_why.specs.Lines.{why_lines}
 use Rattle.feats_why.specs.Settings.{SettingsText, settings_of}
@@ -34,7 +32,7 @@ zip_parts R (x ∷ xs) ys [] h = absurd h
 zip_parts R (x ∷ xs) ys (z ∷ zs) h = let more = zip_parts R xs ys zs h.1 in ((h.0, more.0), more.1)
 
 -- the texts of all, where their spots are explained
-pub texts_printed : (asked : QuestionText) (s : SceneText) (vs : List VerdictText) (founds : List (Option (List WhyText))) → AreFound s (flat_map (λ v. v.spots) vs) founds
+texts_printed : (asked : QuestionText) (s : SceneText) (vs : List VerdictText) (founds : List (Option (List WhyText))) → AreFound s (flat_map (λ v. v.spots) vs) founds
     → ArePrinted asked (map (broken_in s) vs) (texts_by (rule_text asked s.build.judged s.workspace.packages s.words) vs founds)
 texts_printed asked s [] founds h = refl
 texts_printed asked s (v ∷ vs) founds h =
@@ -43,6 +41,12 @@ texts_printed asked s (v ∷ vs) founds h =
     let text = rule_text asked s.build.judged s.workspace.packages s.words in
     let parts = zip_parts (AnswersBy s.workspace s.words s.build.plan.on) v.spots (flat_map (λ (w : VerdictText). w.spots) vs) founds h in
     (text v.rule own, texts_by text vs others, record { founds = own; are_found = parts.0; is_text = refl }, texts_printed asked s vs others parts.1, refl)
+
+-- the same of a text that is these
+pub printed_from : (asked : QuestionText) (s : SceneText) (vs : List VerdictText) (spots : List SpotText) (founds : List (Option (List WhyText))) (text : Text) → spots ≡ flat_map (λ v. v.spots) vs → AreFound s spots founds
+    → text ≡ texts_by (rule_text asked s.build.judged s.workspace.packages s.words) vs founds → ArePrinted asked (map (broken_in s) vs) text
+printed_from asked s vs spots founds text are found is =
+    subst (λ t. ArePrinted asked (map (broken_in s) vs) t) (sym is) (texts_printed asked s vs founds (subst (λ ss. AreFound s ss founds) are found))
 
 -- one more rule
 pub texts_more : {X Y : Type 0} (text : RuleText → List Y → Text) (view : X → Y) (verdicts : List Verdict) (i : ℕ) (x : Verdict) (n : ℕ) (left own rest : List X) (whole old new : Text)
@@ -104,6 +108,10 @@ module _ (packages : List PackageText) (words : WordsText) where
       ap (texts_by (λ r own. verdict_lines file judged r (gapped own)) vs) is
       ∙ texts_mapped (λ r own. verdict_lines file judged r (gapped own)) (text_by format.Text file judged packages words) (found_lines packages words)
       (λ r xs. ap (verdict_lines file judged r) (gapped_lines xs)) vs fs
+
+-- what is appended to an empty text
+pub onto_none : (old new more : Text) → old ≡ [] → new ≡ old ++ more → new ≡ more
+onto_none old new more none grown = grown ∙ ap (λ z. z ++ more) none
 
 -- no rule is broken
 pub none_printed : {X : Type 0} (asked : QuestionText) (s : SceneText) (view : X → VerdictText) (xs : List X) (text : Text) → nat_eq (length xs) 0 ≡ true → text ≡ [] → ArePrinted asked (map (broken_in s) (map view xs)) text

@@ -1,5 +1,5 @@
 -- Warnings about a policy.
-use Rattle.std.specs.Prelude.{◌≡◌, ℕ, List, [], ◌∷◌, ◌++◌, Bool, true, false, Option, Some, map, slice_get, ◌&&◌, if◌then◌else◌}
+use Rattle.std.specs.Prelude.{◌≡◌, ℕ, List, [], ◌∷◌, ◌++◌, Bool, true, false, Some, map, slice_get, ◌&&◌, if◌then◌else◌}
 use Rattle.std.specs.List.{list_any}
 use Rattle.cargo_plans.specs.Plans.{AfterWords, WordsText}
 use Rattle.cargo_workspaces.specs.Workspaces.{PackageText, Text, WorkspaceText}

@@ -12,7 +12,7 @@ ghost use Rattle.feats_check.specs.checking.inner.RuleTexts.{gapped, steps_or_no
 ghost use Rattle.feats_check.specs.texts.Lines.{verdict_lines};
 ghost use Rattle.feats_words.specs.declared.command_arguments.Format.TheVariants as format;
 
-use crate::checking::parted::parted;
+use crate::checking::parted::part_at;
 use crate::checking::planned::Planned;
 use crate::texts::push_verdict;
 use cargo_plans::PlanWords;
@@ -110,11 +110,11 @@ fn push_rules(
 ) -> Result<(), AllocError>
     ensures { OnOk result (text.new.items ≡ text.old.items ++ texts_by (λ r own. verdict_lines file.now judged r (gapped own)) (map verdict_text verdicts.now) (map string_bytes whys.now)) }
 {
-    let mut left = whys;
+    let mut from = 0;
     for verdict in verdicts {
-        let (own, rest) = parted(left, verdict.spots.len());
+        let (own, after) = part_at(whys, from, verdict.spots.len());
         push_rule(alloc, text, file, judged, verdict.rule, own)?;
-        left = rest;
+        from = after;
     }
     Ok(())
 }

@@ -13,7 +13,7 @@ ghost use Rattle.feats_check.specs.checking.Whys as spec;
 ghost use Rattle.feats_check.specs.checking.inner.RuleTexts.{texts_by};
 ghost use Rattle.feats_check.specs.texts.Objects.{rule_members};
 
-use crate::checking::parted::parted;
+use crate::checking::parted::part_at;
 use crate::checking::planned::Planned;
 use crate::texts::write_rule;
 use cargo_plans::PlanWords;
@@ -147,11 +147,11 @@ pub(crate) fn rules_objects(
     ensures { IfOk result (λ text. text.items ≡ texts_by (spec.text_by format.Json [] planned.entry.judged (workspace_text workspace.now).packages (words_text holds_on planned.entry.words.now)) (map verdict_text verdicts.now) (map found_text founds.now)) }
 {
     let mut text = Vec::new(alloc);
-    let mut left = founds;
+    let mut from = 0;
     for verdict in verdicts {
-        let (own, rest) = parted(left, verdict.spots.len());
+        let (own, after) = part_at(founds, from, verdict.spots.len());
         push_rule(alloc, &mut text, workspace, planned, verdict.rule, own)?;
-        left = rest;
+        from = after;
     }
     Ok(text)
 }

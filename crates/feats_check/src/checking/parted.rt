@@ -2,7 +2,7 @@
 ghost use Rattle.std.specs.Prelude.{◌≡◌, drop, take};
 
 /// Returns the first `count` of `items`, or all if there are fewer; and those after them.
-pub(crate) fn parted<T>(items: &[T], count: usize) -> (&[T], &[T])
+fn parted<T>(items: &[T], count: usize) -> (&[T], &[T])
     ensures first { result.0.now ≡ take count items.now }
     ensures rest { result.1.now ≡ drop count items.now }
 {
@@ -11,4 +11,14 @@ pub(crate) fn parted<T>(items: &[T], count: usize) -> (&[T], &[T])
     } else {
         items.split_at(items.len())
     }
+}
+
+/// Returns the first `count` of `items` from place `from` on, or fewer at the end; and the place after them.
+pub(crate) fn part_at<T>(items: &[T], from: usize, count: usize) -> (&[T], usize)
+    ensures part { result.0.now ≡ take count (drop from items.now) }
+    ensures after { drop result.1 items.now ≡ drop count (drop from items.now) }
+{
+    let (_, left) = parted(items, from);
+    let (part, rest) = parted(left, count);
+    (part, items.len() - rest.len())
 }

@@ -10,4 +10,4 @@ use Rattle.feats_check.proofs.checking.lines.push_rules.Given as goal
 abbrev pub invariant-loop-verdict : goal.invariant-loop-verdict
 invariant-loop-verdict l =
     let text = λ (r : RuleText) (own : List Text). verdict_lines l.file l.judged r (gapped own) in
-    l.initial.text.items ++ texts_by text (map verdict_text l.verdicts) (map string_bytes l.whys) ≡ l.text.items ++ texts_by text (map verdict_text (drop l.verdict-index l.verdicts)) (map string_bytes l.left)
+    l.initial.text.items ++ texts_by text (map verdict_text l.verdicts) (map string_bytes l.whys) ≡ l.text.items ++ texts_by text (map verdict_text (drop l.verdict-index l.verdicts)) (map string_bytes (drop l.from l.whys))

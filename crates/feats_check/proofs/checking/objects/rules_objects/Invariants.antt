@@ -12,4 +12,4 @@ use Rattle.feats_check.proofs.checking.objects.rules_objects.Given as goal
 abbrev pub invariant-loop-verdict : goal.invariant-loop-verdict
 invariant-loop-verdict l =
     let text = text_by format.Json [] l.planned.judged (workspace_text l.workspace).packages (words_text holds_on l.planned.words.now) in
-    texts_by text (map verdict_text l.verdicts) (map found_text l.founds) ≡ l.text.items ++ texts_by text (map verdict_text (drop l.verdict-index l.verdicts)) (map found_text l.left)
+    texts_by text (map verdict_text l.verdicts) (map found_text l.founds) ≡ l.text.items ++ texts_by text (map verdict_text (drop l.verdict-index l.verdicts)) (map found_text (drop l.from l.founds))
