@@ -1,0 +1,30 @@
+# The pages of help, and the version. Part of cargo-feats.
+
+usage() {
+  sed -n '2,/^set /s/^# \{0,1\}//p' -- "$script"
+}
+
+# Writes the page of the command: that of feats, without the options and the files that this script adds, and the options for cargo.
+page() {
+  local said
+  said=$("$top/feats" "$command" --help)
+  said=$(sed -E "$no_added"'
+    /^ +--(metadata|host|manifest|member-manifests) /d
+    s/^( +--target <TRIPLE)=CFGFILE> .*/\1>          A platform for which to build, `host-tuple` for the host; without it those that cargo is set to/
+    s/^( +--resolver .* or 3);.*/\1; without it that of the root manifest/
+    s/, with the files of `feats plan --help`, and /, with /
+    s/, with the files of `feats plan --help`//
+    /^With the manifests/,/--member-manifests/d
+    /^  (cargo metadata|rustc) /d
+    /^  feats /{ s//  cargo feats /; s/ --(metadata|host|manifest) [^ ]+//g; }' <<<"$said")
+  if [ "$command" = diff ]; then said+=$'\n\n'$(usage | sed -n '/^Revisions for/,/^$/p'); fi
+  write_by printf '%s\n\n%s\n' "$said" "$(usage | sed -n '/^Options for cargo/,/^$/p')"
+}
+
+# Writes the version of feats as that of this script.
+version() {
+  local said
+  said=$("$top/feats" --version)
+  said=${said%%$'\n'*}
+  write_by printf 'cargo-feats %s\n' "${said#* }"
+}
