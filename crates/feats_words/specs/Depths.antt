@@ -18,7 +18,7 @@ number_within word n = if nat_lt n (2 ^ 64) then Ok n else Err (bad_depth word)
 abbrev pub number_of : Text → Result ℕ Refusal
 number_of word = if is_decimal word then number_within word (digits_value 10 word) else Err (bad_depth word)
 
--- No limit, if there is no word.
+-- No depth, if there is no word.
 abbrev pub depth : Option Text → Result (Option ℕ) Refusal
 depth None = Ok None
 depth (Some word) = number_of word >>= λ n. Ok (Some n)

@@ -335,7 +335,12 @@ fn tree_command<'a>(alloc: Global) -> Made<'a>
     );
     let command = with_arg(
         command,
-        option(alloc, "depth", "N", "Print nothing below this depth"),
+        option(
+            alloc,
+            "depth",
+            "N",
+            "Print N levels below the roots; 1000 without it",
+        ),
     );
     with_options(alloc, with_arg(command, edges(alloc)), false)
 }

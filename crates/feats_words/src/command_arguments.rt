@@ -47,7 +47,7 @@ pub struct CommandArguments<'a> {
     pub no_default_features: bool,
     pub tests: bool,
     pub format: Format,
-    /// How deep a tree is; `None` is no limit.
+    /// How deep a tree is; `None` without the word.
     pub depth: Option<usize>,
     /// What the nodes of a tree or a graph are.
     pub edges: Edges,

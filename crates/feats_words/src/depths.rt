@@ -37,7 +37,7 @@ fn number_of(word: &str) -> Result<usize, WordsFault<'_>>
     }
 }
 
-/// Returns the depth that `word` is: no limit, if there is none.
+/// Returns the depth that `word` is: none, if there is no word.
 pub(crate) fn depth_of(word: Option<&str>) -> Result<Option<usize>, WordsFault<'_>>
     ensures { Gives (λ d. d) result (spec.depth (option_map (λ t. t.now) word.entry)) }
 {
