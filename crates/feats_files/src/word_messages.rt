@@ -43,7 +43,7 @@ pub fn words_refused(alloc: Global, fault: WordsFault<'_>) -> Fault
         ),
         WordsFault::PackagesOfEveryChoice => refused(
             alloc,
-            &["`--every-choice` is about all members of the workspace: leave -p out"],
+            &["`--every-choice` is about all members of the workspace: leave -p and --exclude out"],
         ),
         WordsFault::ExcludeAlone => refused(
             alloc,

@@ -1,5 +1,5 @@
 -- The arguments of a command, parsed from the words of a request.
-use Rattle.std.specs.Prelude.{ℕ, List, [], ◌∷◌, Bool, false, true, Option, None, Some, Result, Ok, Err, flat_map, codes, ok_or, if◌then◌else◌}
+use Rattle.std.specs.Prelude.{ℕ, List, ◌∷◌, Bool, false, true, Option, None, Some, Result, Ok, Err, flat_map, codes, ok_or, if◌then◌else◌}
 use Rattle.std.specs.Str.{bytes_eq}
 use Rattle.std.specs.Option.{option_map_or}
 use Rattle.clap.specs.Words.{Text}
@@ -71,7 +71,7 @@ abbrev pub format_for : QuestionText → Option Text → Result Format Refusal
 format_for dot (Some word) = Err graph_format
 format_for _ word = format word
 
--- A question about every choice is about all members, so no package is selected.
+-- A question about every choice is about all members, so no package is selected, and none excluded.
 abbrev pub all_members : QuestionText → List Text → Result (Unit {0}) Refusal
 all_members (check file true strict) (word ∷ words) = Err packages_of_every_choice
 all_members _ words = Ok tt
@@ -90,6 +90,7 @@ arguments r =
     depth r.depth >>= λ limit.
     edges r.edges >>= λ nodes.
     all_members r.question r.packages >>= λ none.
+    all_members r.question r.exclude >>= λ kept.
     of_all_members r.workspace r.exclude >>= λ all.
     Ok (record {
       question = r.question;

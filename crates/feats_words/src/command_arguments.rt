@@ -143,7 +143,7 @@ fn format_for<'a>(question: Question<'_>, word: Option<&'a str>) -> Result<Forma
     }
 }
 
-/// Returns `PackagesOfEveryChoice` if `question` is about every choice, and `packages` aren't empty.
+/// Returns `PackagesOfEveryChoice` if `question` is about every choice, and `packages`, which are selected or excluded, aren't empty.
 fn all_members<'a>(question: Question<'_>, packages: &[&str]) -> Result<(), WordsFault<'a>>
     ensures { Gives (λ u. u) result (spec.all_members (question_text question.entry) (texts packages.now)) }
 {
@@ -185,6 +185,7 @@ pub fn arguments<'a>(
     let depth = depth_of(request.depth)?;
     let edges = edges_of(request.edges)?;
     all_members(request.question, &request.packages)?;
+    all_members(request.question, &request.exclude)?;
     of_all_members(request.workspace, &request.exclude)?;
     let features = feature_words(alloc, &request.features)?;
     Ok(CommandArguments {

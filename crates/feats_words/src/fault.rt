@@ -16,7 +16,7 @@ pub enum WordsFault<'a> {
     Format(&'a str),
     /// A format is given, and `dot` prints a graph alone.
     GraphFormat,
-    /// The question is about every choice, and `-p` selects packages.
+    /// The question is about every choice, and `-p` selects packages, or `--exclude` leaves members out.
     PackagesOfEveryChoice,
     /// Members are excluded, and not all members are selected.
     ExcludeAlone,
