@@ -274,7 +274,7 @@ launch_feats() {
     echo "feats: cannot write the answer" >&2
     exit 2
   }
-  # (cargo-feats, which calls ./feats several times, has looked)
+  # (cargo-feats calls ./feats several times, so it finds the program once)
   case ${FEATS_BUILD-} in
     proved) exec "$top/crates/feats/out/feats" "$@" ;;
     kept) run_kept feats "$@" ;;

@@ -18,7 +18,7 @@ or 1.0.0:
   features         the member has N features, and its default feature turns on each
   feature-chain    the member has N features, each turns on the next, and its default feature the first
   mostly-features  the member has N features that turn on nothing, and no default feature
-  items            the member depends on N packages as in `uses`, and each of its 100 features has an item for each of them
+  items            the member depends on N packages as in `uses`, and each of its 100 features has one item for each package
   members          N members; each has a feature and a dependency of its own, and depends on two of eight packages, with a feature of each
   repeated         the member declares one dependency N times, each with a platform spec that holds and a feature of its own
 
@@ -35,7 +35,7 @@ EXAMPLE = Path(__file__).resolve().parent.parent / 'examples/cli.metadata.json'
 REGISTRY = 'registry+https://github.com/rust-lang/crates.io-index'
 # The packages on which `members` depend, and the features of each.
 SHARED = 8
-# The features of the member of `items`.
+# The number of features of the member of `items`.
 LISTS = 100
 # What a package has that is depended on with its default features.
 FEATURES = {'default': ['f'], 'f': []}
@@ -161,7 +161,7 @@ def family_of(family, n, version='1.0.0'):
 
 
 def document_of(packages, version='1.0.0'):
-    """Returns the document of packages. Those from a registry have the version `version`."""
+    """Returns the document of `packages`. Those from a registry have the version `version`."""
     ids = {it.name: f'path+file:///w/{it.name}#1.0.0' if it.is_member else f'{REGISTRY}#{it.name}@{version}' for it in packages}
     selected = [ids[it.name] for it in packages if it.is_member]
     return {'packages': [package_of(it, ids, version) for it in packages], 'workspace_members': selected, 'workspace_default_members': selected,

@@ -1,5 +1,5 @@
-"""Trees that are deeper than those which are printed without `--depth`: documents of bench/gen_document.py, with the graphs of their packages
-and of their features. They are made without a plan, for what is on is known.
+"""Trees of about 1,000 levels and more, where `feats tree` ends without `--depth`: documents of bench/gen_document.py, with the graphs of their
+packages and features. The graphs need no plan, because everything in these documents is on.
 """
 import sys
 from pathlib import Path
@@ -13,7 +13,7 @@ import tree_model
 
 
 class Deep(NamedTuple):
-    """A document with the graph of a tree of it, the words that ask for this tree, and the word for what an inverted tree begins at."""
+    """A document with the graph of its tree, the words that ask for this tree, and the word and the node of the root of an inverted tree."""
     name: str
     document: dict
     graph: tree_model.Graph
@@ -23,12 +23,12 @@ class Deep(NamedTuple):
 
 
 def graph_of(titles, links, roots, ids):
-    """The graph of nodes, which are in the order of `titles`."""
+    """Returns the graph of nodes, which are in the order of `titles`."""
     return tree_model.Graph(list(titles), links, roots, titles, ids, [], {it: number for number, it in enumerate(titles)})
 
 
 def chain(n, more=()):
-    """A member `a` that depends on the package p0 and on those with the numbers `more`, and N packages, each of which depends on the next."""
+    """Returns a member `a` and N packages. Each package depends on the next, and the member on p0 and on the packages with the numbers `more`."""
     first, *others = gen_document.chain(n)
     first.declarations.extend(gen_document.Declaration(f'p{i}') for i in more)
     document = gen_document.document_of([first, *others])
@@ -40,7 +40,7 @@ def chain(n, more=()):
 
 
 def feature_chain(n):
-    """A member `a` with N features, each of which turns on the next; its default feature turns on the first."""
+    """Returns a member `a` with N features. Each feature turns on the next, and the default feature turns on the first."""
     document = gen_document.family_of('feature-chain', n)
     names = sorted(document['packages'][0]['features'], key=str.encode)
     titles = {name: f'a/{name}' if name else 'a' for name in ['', *names]}
@@ -50,7 +50,7 @@ def feature_chain(n):
 
 
 def deep_trees():
-    """Chains that end at the depth 1,000 and below it; and one that is cut there, and whose end is shown by a shorter way."""
+    """Yields chains that end at the depth of 1,000, below it and above it, and chains whose end is also reached by a shorter path."""
     yield from (chain(n) for n in (1000, 1001, 1200))
     yield chain(1200, [999])
     yield chain(1200, [1000])
@@ -58,7 +58,7 @@ def deep_trees():
 
 
 def answers():
-    """Yields for each tree a name, the document, the words of `feats tree`, and what must be printed."""
+    """Yields for each tree its name, the document, the words of `feats tree`, and the expected text."""
     for it in deep_trees():
         for turned, wanted in (([], None), (['-i', it.last], {it.last_node})):
             for limit in (None, 1000, 2000):

@@ -342,7 +342,7 @@ def random_choice(numbers, document, with_others):
 
 
 def excluded_word(numbers, package, packages):
-    """A word of `--exclude` that excludes a member: usually it alone, or by a pattern. Some exclude nothing."""
+    """Returns a word of `--exclude`. Most words exclude the member `package`, alone or by a pattern; some exclude nothing."""
     name, form = package['name'], numbers.below(100)
     if form < 55:
         return package_word(numbers, package)
@@ -390,7 +390,7 @@ def random_excluding(numbers, document):
     return with_features(numbers, document, *random_exclusion(numbers, document))
 
 
-# What draws the words of a selection from random numbers and a document, by the group.
+# For each group, the function that returns the words of a selection, by random numbers and a document.
 GROUPS = {
     'random': partial(random_selection, with_others=False),
     'others': partial(random_selection, with_others=True),

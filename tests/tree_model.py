@@ -118,7 +118,7 @@ def lines_below(ends, node, lasts, limit, shown):
 
 
 def lines_of(graph, wanted, limit):
-    """The lines of the trees; if nodes are wanted, of their inverted trees. And whether they are cut though no limit is given."""
+    """The lines of the trees, or of the inverted trees of the nodes `wanted`; and whether they are cut, which is false with a limit."""
     roots, links = (graph.roots, graph.links) if wanted is None else (wanted, {(b, a) for a, b in graph.links})
     ends, shown = below(graph, links), set()
     lines = [line for node in graph.nodes if node in roots for line in lines_below(ends, node, [], DEPTH if limit is None else limit, shown)]

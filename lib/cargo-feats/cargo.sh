@@ -8,8 +8,8 @@ need() {
   type -P -- "$3" >/dev/null || fail "cannot find \`$3\`: put $1 in PATH, or set $2 to its path"
 }
 
-# Runs a command of cargo. The first one says the warnings; what a later one says is shown only if it fails, after the faults of those that
-# run beside it, which explain it.
+# Runs a command of cargo. The first command shows cargo's warnings. The messages of a later one are shown only if it fails, after the faults of
+# the commands that run beside it, which explain it.
 run_cargo() {
   local ended=0
   set -- "${toolchain[@]}" "$@" "${for_each[@]}"
@@ -27,8 +27,8 @@ run_cargo() {
   return "$ended"
 }
 
-# Starts a command of cargo beside this script. The first argument is its name, and that of the file for its output. The first command
-# says the warnings, as for `run_cargo`.
+# Starts a command of cargo beside this script. The first argument is the name of the command and of the file for its output. The first command
+# shows cargo's warnings, as for `run_cargo`.
 start_cargo() {
   local name=$1
   shift
@@ -43,7 +43,7 @@ start_cargo() {
   running[$name]=$!
 }
 
-# Waits for a command that was started, unless it has ended. If it fails, what it says is shown after a fault of the document.
+# Waits for a command that was started, unless it has ended. If it fails, its messages are shown after a fault of the document.
 await_cargo() {
   local ended=0
   [ -n "${running[$1]-}" ] || return 0
@@ -72,7 +72,7 @@ start_document() {
   if [ -z "${has_resolver[0]-}" ] || [ "$command" = slim ]; then start_cargo root locate-project --workspace --message-format plain "${for_cargo[@]}"; fi
 }
 
-# Sets `root` to the root manifest, if it is asked for.
+# Sets `root` to the path of the root manifest, if `start_document` looks for it.
 await_root() {
   await_cargo root
   if [ -s "$room/root" ]; then root=$(<"$room/root"); fi
@@ -112,7 +112,7 @@ gather_manifests() {
   done >"$room/manifests"
 }
 
-# Writes the path of the root manifest to the file `located`. What cargo says is shown only if it fails.
+# Writes the path of the root manifest to the file `located`. Cargo's messages are shown only if it fails.
 locate() {
   local has_run=yes
   run_cargo locate-project --workspace --message-format plain "${for_cargo[@]}" >"$room/located"

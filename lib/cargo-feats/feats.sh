@@ -42,8 +42,8 @@ find_words() {
   done
 }
 
-# Runs feats, and sets `status`, and `faults` to what it says. The answer is kept until it is known that the document lacks nothing. The
-# argument is the path of the document.
+# Runs feats, and sets `status`, and `faults` to its messages. The answer is kept until it is known that the document lacks nothing. The argument
+# is the path of the document.
 run_feats() {
   local document=()
   names_documents || document=(--metadata "$1")
@@ -59,20 +59,20 @@ run_feats() {
   esac
 }
 
-# Prints what feats says.
+# Prints the messages of feats.
 say_faults() {
   if [ -n "$faults" ]; then sed -E "$no_added" <<<"$faults" >&2 || true; fi
 }
 
-# Sets FEATS_BUILD to the program that ./feats of the repository runs, so that ./feats doesn't look for it at each call. If it isn't made
-# yet, it is made now, and a terminal shows how far it is.
+# Sets FEATS_BUILD to the program that ./feats of the repository runs, so that ./feats doesn't look for it at each call. If no program is current,
+# one is made, and a terminal shows how far it is.
 find_build() {
   export FEATS_BUILD=''
   [ ! -f "$top/launcher.sh" ] || FEATS_BUILD=$(. "$top/launcher.sh" && current_build feats) || exit
 }
 
-# Ends after a fault of the words, or of the path of the policy, before cargo is run. feats reads these first. They are right if it says that
-# the next file isn't there: the document, or the cfg text that it reads before two documents.
+# Ends after a fault of the words, or of the path of the policy, before cargo is run. feats reads these first. They are right if its fault is that
+# the next file doesn't exist: the document, or the cfg text that it reads before two documents.
 check_words() {
   local place path nowhere=/dev/null/none host=/dev/null
   [ "$builds" -ne 1 ] || fail "\`diff\` has one \`--\`: write both, as in \`diff -- WORDS -- WORDS\`"
@@ -87,7 +87,7 @@ check_words() {
   find_build
   run_feats "$nowhere" </dev/null
   if [[ $faults = *"$nowhere"* ]]; then status=0; fi
-  # What is left is said of the words, or of the program.
+  # (the rest are faults of the words, or of the program)
   faults=$(grep -vF -- "$nowhere" <<<"$faults" || true)
   say_faults
   [ "$status" -lt 2 ] || exit "$status"

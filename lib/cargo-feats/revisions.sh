@@ -1,7 +1,8 @@
 # Revisions of git for `diff`: their files and documents. Part of cargo-feats.
 
 # The two revisions that `diff` compares, the old one first: their words, their commits, and the places in `for_feats` of the paths of their root
-# manifests. The commit of the working tree is empty. They have a git folder, a repository's top folder, and below that a manifest's path.
+# manifests. The commit of the working tree is empty. `git_folder` is the repository's git folder, `repository` its top folder, and `manifest` the
+# path of the manifest below that.
 revisions=() commits=() manifest_places=() git_folder='' repository='' manifest=''
 # The names of the folders and of the files of the two.
 SIDES=(old new)
@@ -16,8 +17,8 @@ in_git() {
   git --git-dir="$git_folder" "$@"
 }
 
-# Sets `manifest` to the path of the manifest, which is that of --manifest-path or else the nearest one, and `folder` to its folder, or
-# the nearest above it that is there: the manifest of a revision needn't be there now.
+# Sets `manifest` to the path of the manifest: that of --manifest-path, or else the nearest one. Sets `folder` to its folder, or to the nearest
+# folder above it that exists, because the manifest of a revision needn't exist in the working tree.
 find_manifest() {
   local number nearest
   folder=$(pwd -P)
@@ -37,15 +38,15 @@ find_manifest() {
 }
 
 # Sets `repository` to the top folder of the repository with the manifest, `git_folder` to its git folder, and `manifest` to its path below
-# `repository`. Returns whether there is one; else the file `said` has the reason.
+# `repository`. Returns whether there is a repository. If not, the file `said` has the reason.
 find_repository() {
   local folder
-  # (a hook of git may set the folder without that of the working tree, which then is the current one)
+  # (a hook of git may set GIT_DIR alone; git would then take the current folder for the top folder)
   if [ -z "${GIT_WORK_TREE-}" ]; then unset GIT_DIR; fi
   find_manifest
   repository=$(git -C "$folder/" rev-parse --show-toplevel 2>"$room/said") || return
   git_folder=$(git -C "$folder/" rev-parse --absolute-git-dir 2>"$room/said") || return
-  # (these are of this repository, and a submodule has others)
+  # (these belong to this repository, and submodules have others)
   unset GIT_DIR GIT_WORK_TREE GIT_COMMON_DIR GIT_INDEX_FILE GIT_PREFIX
   repository=${repository%/}
   if [[ $manifest != "$repository"/* ]]; then
@@ -60,7 +61,7 @@ commit_of() {
   in_git rev-parse --verify --quiet "$1^{commit}" 2>/dev/null
 }
 
-# Sets `commits` to the commits of `revisions`. The argument is the text of the words that have them.
+# Sets `commits` to the commits of `revisions`. The argument is the text of the words that contain them.
 find_commits() {
   local side named
   for side in "${!revisions[@]}"; do
@@ -70,7 +71,7 @@ find_commits() {
   done
 }
 
-# Sets `revisions` and `commits` by the only word of `diff`.
+# Sets `revisions` and `commits` by a single word of `diff`.
 read_revisions() {
   case $1 in
     *...*) revisions=("${1%%...*}" "${1#*...}") ;;
@@ -90,7 +91,8 @@ read_revisions() {
   fi
 }
 
-# Sets `revisions` and `commits` if the words of `diff` are revisions. Two documents, which `make_documents` writes, then replace the words.
+# Sets `revisions` and `commits` if the words of `diff` are revisions. Then the paths of two documents replace the words; `make_documents` writes
+# the documents.
 find_revisions() {
   local place word words=()
   names_documents || return 0
@@ -105,7 +107,7 @@ find_revisions() {
       read_revisions "${words[0]}"
       ;;
     2)
-      # (without a revision they are documents that aren't there)
+      # (if neither is a revision, they are documents that don't exist)
       find_repository && { commit_of "${words[0]}" || commit_of "${words[1]}"; } >/dev/null || return 0
       revisions=("${words[@]}")
       find_commits "${words[*]}"
@@ -120,7 +122,7 @@ find_revisions() {
   add_manifests
 }
 
-# Appends words for the root manifests of the revisions to `for_feats`, unless others say the resolver. `make_documents` sets their paths.
+# Appends words for the root manifests of the revisions to `for_feats`, unless other words name the resolver. `make_documents` sets their paths.
 add_manifests() {
   local word words=(--old-manifest --manifest) side
   for word in "${for_feats[@]}"; do
@@ -137,7 +139,7 @@ add_manifests() {
   has_resolver[0]=yes
 }
 
-# Writes the files of a commit to a new folder, and those of its submodules whose commits are there. The arguments are the git folder, the top
+# Writes the files of a commit to a new folder, and those of each submodule whose commit exists. The arguments are the git folder, the top
 # folder, the commit and the new folder. The index is a temporary file, and no hook runs: the repository stays as it is.
 check_out() {
   local line path git_folder=$1
@@ -149,20 +151,20 @@ check_out() {
     path=${line#*$'\t'}
     line=${line%%$'\t'*}
     line=${line##* }
-    # (in the folder of a submodule that isn't there, git finds the repository, which lacks its commit)
+    # (without the submodule's folder git fails; without the submodule in it git finds the repository, which lacks the commit)
     git_folder=$(git -C "$2/$path" rev-parse --absolute-git-dir 2>/dev/null) || continue
     if in_git cat-file -e "$line^{commit}" 2>/dev/null; then check_out "$git_folder" "$2/$path" "$line" "$4/$path" || return; fi
   done < <(git --git-dir="$1" ls-tree -r -z --full-tree "$3" | grep -z '^160000 ')
 }
 
-# Prints the folder of a revision's files. The argument is its number, 0 or 1. Its name is that of the repository, because the ids of cargo
-# depend on that.
+# Prints the folder of a revision's files. The argument is the number of the revision, 0 or 1. The folder has the repository's name, because
+# cargo's ids depend on it.
 tree_of() {
   printf '%s' "$room/${SIDES[$1]}/${repository##*/}"
 }
 
-# Runs a command for a revision, or for the working tree: in the same folder of its files, or the nearest above that is there, and with its
-# manifest. The arguments are its number and the command.
+# Runs a command for a revision or for the working tree, with its manifest. The command runs in the folder of its files that corresponds to the
+# current folder, or in the nearest one above that exists. The arguments are the number of the revision and the command.
 at_revision() {
   local here=$PWD folder ended=0 number tree given=("${for_cargo[@]}") for_cargo=("${for_cargo[@]}") for_each=("${for_each[@]}")
   tree=$(tree_of "$1")
@@ -173,7 +175,7 @@ at_revision() {
     done
     for_cargo+=(--manifest-path "$tree/$manifest")
     for number in "${!for_each[@]}"; do
-      # (a file of the configuration stays that of the words)
+      # (the path of a file of configuration is relative to the current folder)
       if [[ ${for_each[number]} = [!/]* && ${for_each[number - 1]} = --config && -f ${for_each[number]} ]]; then for_each[number]=$here/${for_each[number]}; fi
     done
     folder=$(pwd -P)/
@@ -197,8 +199,8 @@ make_tree() {
   [ -e "$tree/$manifest" ] || fail "the revision \`${revisions[$1]}\` has no \`$manifest\`: \`git log --all -- :/$manifest\` shows revisions that have it"
 }
 
-# Finds the root manifest of a revision, and sets the word for it. A revision without a Cargo.lock begins with that of the working tree, because
-# the versions of today would differ from it. The argument is the number of the revision.
+# Finds the root manifest of a revision, and sets the word for it. A revision without a Cargo.lock gets that of the working tree, because cargo
+# would choose the newest versions. The argument is the number of the revision.
 find_root() {
   local path tree
   locate || return
@@ -224,8 +226,8 @@ url_of() {
   done
 }
 
-# Keeps the document that was made for a revision. Ids are as if its files were in the repository's folder, so they are those of the
-# working tree. The argument is its number.
+# Keeps the document that was made for a revision, with the ids that the packages would have in the repository's folder. The argument is the
+# number of the revision.
 keep_document() {
   local url name=${room##*/} sign
   if [ -z "${commits[$1]}" ]; then
@@ -266,8 +268,8 @@ documents_anew() {
   return "$ended"
 }
 
-# Says in which revision a fault of feats is, of which `faults` has the text. The old document is read first, so the fault is there if that one
-# also can't be compared with itself.
+# Adds to `faults` in which revision the fault of feats is. It is the old one if comparing the old document with itself is a fault, too, because
+# feats reads the old document first.
 name_revision() {
   local said=$faults side=1 place
   for place in "${!words[@]}"; do words[place]=${words[place]/#"$room/new"/"$room/old"}; done
@@ -283,8 +285,8 @@ name_revision() {
   done
 }
 
-# Makes the documents of revisions. Of two other documents that aren't in a workspace, words must say the resolver: then no root manifest is asked
-# for, and cargo's reason is shown.
+# Makes the documents of revisions. For two other documents it looks whether there is a workspace. Without one, cargo's message is shown, and words
+# must name the resolver.
 prepare_documents() {
   need cargo CARGO "$cargo"
   if [ ${#revisions[@]} -gt 0 ]; then

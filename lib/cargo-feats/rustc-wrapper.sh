@@ -8,10 +8,10 @@
 # The *facts* of a question are the cfg text, and the output and the messages of rustc for cargo. They are kept in a file, so that a later
 # run doesn't ask rustc (docs/PLANS.md). The file has the key, the facts and their sum, each ended by a NUL byte.
 
-# The flags with which facts are kept. Others may name a file, whose content may change.
+# The flags with which facts are kept. Another flag may name a file, and its content may change.
 kept_flags='^( (-C ?|--codegen[ =])(link-args?|linker|panic|target-cpu|target-feature)=[[:alnum:]_=+,-]*| --cfg[ =][[:alnum:]_]+)*$'
 
-# Notes the version of rustc, which cargo asks first, answers and ends.
+# Notes the version of rustc, for which cargo asks first. Then prints it and ends the script.
 note_version() {
   local said
   # If it fails, so does the command itself, and cargo says why.
@@ -21,7 +21,7 @@ note_version() {
   exit 0
 }
 
-# Sets `version` to the answer to `-vV` of a command: the noted one, if that is of the same rustc.
+# Sets `version` to the answer of a command to `-vV`: the noted answer, if it is of the same rustc.
 find_version() {
   local noted='' rustc
   if [ -f "$CARGO_FEATS_ASKED/version" ]; then IFS= read -r -d '' noted <"$CARGO_FEATS_ASKED/version" || true; fi
@@ -29,8 +29,8 @@ find_version() {
   [ "$rustc" = "$*" ] || version=$("$@" -vV)
 }
 
-# Sets `key` to all that the facts of the question depend on, and `file` to the path that belongs to it; or `file` to nothing if they
-# aren't kept. `native` is the processor of the machine, and a rustc without a hash may be another one tomorrow.
+# Sets `key` to everything that the facts of the question depend on, and `file` to the path of their file. `file` is empty if the facts aren't
+# kept. `native` stands for the processor of the machine, and two programs rustc without a hash may have the same version.
 find_file() {
   local folder=${CARGO_FEATS_CACHE-} program=$1 name stamp sum
   file=''
@@ -45,7 +45,7 @@ find_file() {
   file=$folder/${sum%% *}
 }
 
-# Sets `facts` to those in the file. Returns whether it is whole, and of this user and this key.
+# Sets `facts` to those in the file. Returns whether the file is whole, and belongs to this user and this key.
 read_facts() {
   local parts=() sum
   [ -n "$file" ] && [ -f "$file" ] && [ -O "$file" ] && mapfile -t -d '' parts 2>/dev/null <"$file" && [ ${#parts[@]} -eq 5 ] || return
@@ -54,7 +54,7 @@ read_facts() {
   facts=("${parts[@]:1:3}")
 }
 
-# Sets `facts` to the cfg text that rustc prints, and to the other facts too if they are kept. Returns whether rustc prints one.
+# Sets `facts` to the cfg text that rustc prints, and also to the other facts if they are kept. Returns whether rustc prints a cfg text.
 ask_facts() {
   local word words=() said
   for word in "$@"; do
@@ -68,7 +68,7 @@ ask_facts() {
   [ -z "$file" ] || keep_facts "$@" 2>/dev/null || true
 }
 
-# Writes the file, if the target is one that rustc has built in (what another one is, a file says), and if rustc is still the same.
+# Writes the file, if the target is built in and rustc is still the same. (Any other target is described by a file, which may change.)
 keep_facts() {
   local known said sum new
   known=$("$1" --print target-list </dev/null) && [[ $'\n'$known$'\n' = *$'\n'$triple$'\n'* ]] || return
@@ -81,7 +81,7 @@ keep_facts() {
   printf '%s\0' "$key" "${facts[@]}" "${sum%% *}" >"$new" && mv -f -- "$new" "$file" || rm -f -- "$new"
 }
 
-# Notes a platform about which cargo asks rustc. If there are all facts, it answers and ends.
+# Notes a platform about which cargo asks rustc. If all facts are there, prints the answer and ends the script.
 note_platform() {
   local IFS=$'\x1f' line words flags version key file facts=() platform='' triple
   line="$*"

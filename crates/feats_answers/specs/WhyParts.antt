@@ -17,7 +17,7 @@ use Rattle.feats_answers.specs.Parts.{label_of_part}
 abbrev pub is_anywhere : (Side → ℕ → LabelName → Bool) → NamedText → Bool
 is_anywhere built part = built Target part.owner (label_of_part part.part) || built Host part.owner (label_of_part part.part)
 
--- These parts, which are those of the candidates that are built; without any, the word has several meanings.
+-- The built ones of the candidates, or a refusal if there are none: then the word has several meanings.
 abbrev pub those_or_several : Text → List NamedText → List NamedText → Result (List NamedText) NameRefusal
 those_or_several word candidates [] = Err (several word candidates)
 those_or_several word candidates (part ∷ parts) = Ok (part ∷ parts)
@@ -27,7 +27,7 @@ abbrev pub named_where : (NamedText → Bool) → Result (List NamedText) NameRe
 named_where test (Err (several word candidates)) = those_or_several word candidates (filter test candidates)
 named_where test given = given
 
--- The parts that the word names as the word of a rule; of several candidates those that are built, if there are any.
+-- The parts that the word names, read as the word of a rule. If several candidates fit, they are those that are built, or a refusal if none is.
 abbrev pub why_parts : WorkspaceText → WordsText → PlanText → List ℕ → Text → Result (List NamedText) NameRefusal
 why_parts w words plan selected word =
     named_where (is_anywhere (is_part_built words.selection.split plan)) (parts_matching w.packages selected word)

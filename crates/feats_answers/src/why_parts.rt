@@ -61,7 +61,7 @@ fn those_built<'w>(
     built_among(alloc, &built, candidates)
 }
 
-/// Returns `named`, those of `candidates` that are built; without any, the refusal of `word`, which `candidates` fit.
+/// Returns `named`, or the refusal of `word` with all `candidates` if `named` is empty.
 fn those_or_several<'w>(
     alloc: Global,
     workspace: &Workspace<'_>,
@@ -79,8 +79,8 @@ fn those_or_several<'w>(
     Ok(named)
 }
 
-/// Returns the parts that `word` names, where those of the packages `selected` go before others; of several candidates those that are
-/// built in `plan`, if there are any.
+/// Returns the parts that `word` names, read as the word of a rule. Parts of the packages `selected` go before others. If several candidates
+/// fit, returns those that `plan` builds. If it builds none, the error has all candidates.
 fn parts_among<'w>(
     alloc: Global,
     workspace: &'w Workspace<'_>,
@@ -102,8 +102,8 @@ fn parts_among<'w>(
     }
 }
 
-/// Returns the parts that `word` names in the build of `words`, whose plan is `plan`: those that it names as the word of a rule; of several
-/// candidates those that are built, if there are any.
+/// Returns the parts that `word` names in the build of `words`, read as the word of a rule. If several candidates fit, returns those that
+/// `plan`, the plan of the build, builds. If it builds none, the error has all candidates.
 pub(crate) fn why_parts_of<'w>(
     alloc: Global,
     workspace: &'w Workspace<'_>,
