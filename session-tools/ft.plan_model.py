@@ -1,1 +1,1 @@
-1981 passed, 0 failed
+2251 passed, 0 failed

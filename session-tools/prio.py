@@ -7,6 +7,9 @@ while True:
         if not p.isdigit(): continue
         try:
             with open(f"/proc/{p}/cmdline", "rb") as it: cmd = it.read()
+            if b"tools/keep" in cmd or b"tools/sched" in cmd or b"tools/dev" in cmd:
+                if os.getpriority(os.PRIO_PROCESS, int(p)) != -18: os.setpriority(os.PRIO_PROCESS, int(p), -18)
+                continue
             if b"rattle" not in cmd and b"clang" not in cmd: continue
             cwd = os.readlink(f"/proc/{p}/cwd")
             rule = max((r for r in rules if cwd.startswith(r[0])), key=lambda r: len(r[0]), default=None)

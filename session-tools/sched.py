@@ -39,7 +39,7 @@ while todo or running:
     for n in ready:
         if len(running) >= lanes: break
         todo.remove(n)
-        jobs = "2" if len(running) <= 1 or n in ("feats_differences", "feats_comparisons", "feature_graph", "guppy_vectors", "why_lines", "feats_answers", "plan_steps", "feats", "feature_links", "feature_edges", "feature_core", "plan_starts", "plan_whys", "why_nots", "step_visits", "plan_units", "cargo_plans", "feats_check", "feats_slim", "feats_tree") else "1"
+        jobs = "2" if n in ("feats_slim","feats_duplicates","feats_why_not","feats_tree") else "4" if n in ("digraphs", "digraph_orders", "guppy_support", "walk_engine", "walk_checks", "guppy_packages", "feature_labels", "feature_links", "feature_edges", "feature_core", "plan_rows", "plan_starts", "cargo_plans", "plan_whys", "feats_why", "feats_policies", "feats_check", "feats_answers", "feats_plans", "feats") else "2" if len(running) <= 2 or n in ("feature_graph", "guppy_vectors") else "1"
         env = dict(os.environ, WAIT="1", KJOBS=jobs)
         running[n] = subprocess.Popen(["/work/tools/keep", n], cwd=clone, stdout=open(f"/work/tools/log.{n}", "w"), stderr=subprocess.STDOUT, env=env)
     time.sleep(1)

@@ -1,0 +1,1 @@
+2310 passed, 0 failed
