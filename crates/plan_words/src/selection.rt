@@ -10,7 +10,7 @@ pub enum PackageChoice<'s> {
     /// The packages that these words name, each by `NAME`, `NAME@VERSION`, `NAME:VERSION` or an id, and the members whose names fit
     /// these words.
     Named(&'s [&'s str]),
-    /// All members of the workspace but those that these words name, and those whose names fit these words.
+    /// All members of the workspace, except those that these words name or whose names fit these words.
     AllBut(&'s [&'s str]),
 }
 

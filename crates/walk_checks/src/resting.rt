@@ -85,8 +85,8 @@ fn take_greatest(waiting: &mut BTreeSet<usize>) -> Option<usize>
 
 /// Returns the steps on which `node` rests, the last first. There are none if `node` isn't listed.
 ///
-/// A reason leans only on nodes of earlier steps. So a step is needed by no other step once those of greater
-/// needed places were read, and the steps between two needed places are never read.
+/// A reason leans only on nodes of earlier steps. So the greatest place that waits is read next: no step that is
+/// read later needs its node. Steps that nothing needs are never read.
 fn needed_steps<T: EdgeTable>(
     alloc: Global,
     table: &T,
@@ -116,7 +116,7 @@ fn needed_steps<T: EdgeTable>(
 }
 
 /// Returns the steps on which `node` rests, as `why` does. `places` are the places of `steps`, made once for
-/// any number of nodes: with k steps in the result, the time is in k log k, however many `steps` there are.
+/// any number of nodes. If the result has k steps, the time is proportional to k log k, however long `steps` is.
 /// Allocates the list, and a set of places no longer than it. `AllocError` is returned when an allocation fails.
 pub fn why_by_places<T: EdgeTable>(
     alloc: Global,
@@ -148,8 +148,8 @@ pub fn why_by_places<T: EdgeTable>(
 /// initial nodes.
 ///
 /// The result is an explanation for the same edges, initial nodes and offers. If `steps` aren't an explanation,
-/// the result is unspecified. The time is linear in the nodes and the steps, and that of `why_by_places`, which
-/// serves many nodes by places made once. Allocates a place per node, and the list. `AllocError` is returned when
+/// the result is unspecified. The time is linear in the nodes and the steps, plus that of `why_by_places`, which
+/// answers for many nodes by places that are made once. Allocates a place per node, and the list. `AllocError` is returned when
 /// an allocation fails.
 pub fn why<T: EdgeTable>(
     alloc: Global,

@@ -1,4 +1,4 @@
--- The marks of which a URL that names a package has one.
+-- A URL that names a package contains `#` or `/`.
 use Rattle.std.specs.Prelude.{ℕ, Bool, ◌==◌, ◌||◌}
 use Rattle.std.specs.List.{list_any}
 use Rattle.cargo_workspaces.specs.Workspaces.{Text}

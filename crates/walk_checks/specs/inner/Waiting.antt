@@ -21,7 +21,7 @@ pub record AreWaiting (steps : List Step) (k : ℕ) (N W : ℕ → Bool) : Type 
   pub below : (p : ℕ) → IsTrue (W p) → p < k
   pub needed : (p : ℕ) (step : Step) → p < k → slice_get steps p ≡ Some step → IsTrue (N step.node) ↔ IsTrue (W p)
 
--- The steps from some place on were read, of which `bound` is no lower, and the places `W` wait.
+-- All steps from place `from` on were read. `from` isn't above `bound`. `W` contains the places that wait.
 pub record IsReading (c : Content) (steps : List Step) (node bound : ℕ) (W : ℕ → Bool) (kept : List Step) : Type 0 where
   pub from : ℕ
   pub within : from ≤ bound
