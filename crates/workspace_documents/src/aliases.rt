@@ -17,7 +17,7 @@ fn last_names<'v>(
     alloc: Global,
     dependencies: &[Dependency<'_, 'v>],
 ) -> Result<NamesById<'v>, AllocError> {
-    // (no contract: `aliased` may pass any names on to `miscalled`; with these, its set has no id in excess)
+    // (no contract: `miscalled` may take any names; with the last ones its set has only ids of packages with several names)
     let mut names = BTreeMap::new(alloc);
     for dependency in dependencies {
         let _earlier = names.insert(dependency.target.id, dependency.name())?;
