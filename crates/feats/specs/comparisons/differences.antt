@@ -2,7 +2,6 @@ pub mod Answers
 pub mod Builds
 pub mod Forms
 pub mod LastSteps
-pub mod Pages
 pub mod Shown
 pub mod Views
 pub mod Whys

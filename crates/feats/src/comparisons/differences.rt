@@ -3,7 +3,6 @@
 mod answers;
 mod builds;
 mod forms;
-mod pages;
 mod parts;
 mod shown;
 mod whys;

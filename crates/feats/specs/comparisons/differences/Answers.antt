@@ -8,7 +8,7 @@ use Rattle.feats_answers.specs.AnswerTexts.{AnswerText}
 use Rattle.feats_diff.specs.changes.Differences.{AreDifferences, DifferencesText, IsPartitioned}
 use Rattle.feats_diff.specs.changes.Equality.{are_equal}
 use Rattle.feats.specs.comparisons.differences.Builds.{BuildText, parts_of}
-use Rattle.feats.specs.comparisons.differences.Pages.{page_of}
+use Rattle.feats_report.specs.Reports as reports
 use Rattle.feats.specs.comparisons.differences.Shown.{all_shown}
 use Rattle.feats.specs.comparisons.differences.Whys.{AreAllWhys, WhysText}
 use Rattle.feats.specs.declared.comparisons.differences.forms.Form.{Form}
@@ -16,7 +16,7 @@ use Rattle.feats.specs.declared.comparisons.differences.forms.Form.TheVariants.{
 
 -- The data of a page that shows these differences.
 abbrev pub page_text : List DifferenceText → Text
-page_text shown = page_of (difference_objects shown)
+page_text shown = reports.differences_text (difference_objects shown)
 
 abbrev pub text_in : Form → List PackageText → List PackageText → List DifferenceText → Text
 text_in Lines old new shown = difference_lines old new shown

@@ -11,7 +11,6 @@ ghost use Rattle.feats_diff.specs.changes.Views.{differences_text};
 
 use crate::comparisons::differences::builds::Build;
 use crate::comparisons::differences::forms::Form;
-use crate::comparisons::differences::pages::page_of;
 use crate::comparisons::differences::parts::parts_of;
 use crate::comparisons::differences::shown::{push_changes, push_comes, push_gone};
 use crate::comparisons::differences::whys::{Whys, whys_of};
@@ -19,6 +18,7 @@ use cargo_workspaces::Workspace;
 use feats_answers::Answer;
 use feats_diff::changes::{Differences, differences_between};
 use feats_diff::texts::{Difference, difference_lines, difference_objects};
+use feats_report::differences_text;
 use std::alloc::{AllocError, Global};
 
 /// Returns what is shown of `differences`, with the last steps of each `why`.
@@ -42,7 +42,7 @@ fn page_text(alloc: Global, shown: &[Difference<'_, '_, '_>]) -> Result<Vec<u8>,
     ensures { IfOk result (λ text. text.items ≡ spec.page_text (map difference_text shown.now)) }
 {
     let objects = difference_objects(alloc, shown)?;
-    page_of(alloc, &objects)
+    differences_text(alloc, &objects)
 }
 
 /// Returns the text of `shown`, which are packages of `old` and `new`.
