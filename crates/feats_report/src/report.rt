@@ -11,11 +11,11 @@ ghost use Rattle.feats_report.specs.inner.Members.{parts_text};
 
 use crate::features::built_features;
 use crate::numbers::{numbers_text, pairs_text};
-use crate::objects::{Member, object_text};
+use crate::objects::{Member, page_object};
 use cargo_plans::{Plan, PlanWords, Platform};
 use cargo_workspaces::Workspace;
 use feats_why::{settings_of, why_objects};
-use page_data::{array_of_lines, page_safe};
+use page_data::array_of_lines;
 use plan_whys::explanation;
 use plan_whys::links::{root_units, unit_links};
 use std::alloc::{AllocError, Global};
@@ -96,8 +96,7 @@ fn data_of(alloc: Global, parts: Parts<'_>) -> Result<Vec<u8>, AllocError>
             value: &specs,
         },
     ];
-    let text = object_text(alloc, &members)?;
-    page_safe(alloc, &text)
+    page_object(alloc, &members)
 }
 
 /// Returns the data of a page about `plan`, which is that of `words`, as one JSON value and a line feed: the objects of the units in
@@ -142,6 +141,5 @@ pub fn differences_text(alloc: Global, differences: &[u8]) -> Result<Vec<u8>, Al
         name: "differences",
         value: &array,
     }];
-    let text = object_text(alloc, &members)?;
-    page_safe(alloc, &text)
+    page_object(alloc, &members)
 }
