@@ -25,17 +25,17 @@ check_output() {
   [ -d "$folder" ] || cannot_write "there is no folder \`$folder\`"
 }
 
-# Sets `output` to the file of a page in the target directory, whose folder is made. A document has the target directory after its packages, so
-# none of these can name another one.
+# Sets `output` to the file of a page in the target directory, whose folder is made. A document has the target directory after its packages and
+# before the workspace's metadata. These may have the same keys, but then other keys follow.
 find_output() {
-  local line name=report
+  local line name=report string='"([^"\\]|\\.)*"'
   if [ "$command" = diff ]; then name=diff; fi
   if names_documents && ! document --no-deps >"$room/document"; then fail "there is no workspace for the page: write \`-o FILE\`"; fi
   line=$(LC_ALL=C sed 's/"target_directory":"/\n&/g' "$room/document" |
-    LC_ALL=C grep -aoE '^"target_directory":"([^"\\]|\\.)*",("build_directory":"([^"\\]|\\.)*",)?"version":1,' | tail -n 1)
+    LC_ALL=C grep -aoE "^\"target_directory\":$string,(\"build_directory\":$string,)?\"version\":1,\"workspace_root\":$string,\"metadata\":" | tail -n 1)
   line=${line#*:\"}
   line=${line%%\",\"build_directory\":*}
-  line=${line%\",\"version\":1,}
+  line=${line%%\",\"version\":1,*}
   [ -n "$line" ] || fail "\`$cargo metadata\` names no target directory for the page: write \`-o FILE\`"
   # (as in `gather_manifests`)
   printf -v output '%b' "${line//\\\"/\\x22}/cargo-feats/$name.html"
