@@ -17,7 +17,7 @@ UNSAFE = {character: f'\\u{ord(character):04x}' for character in '<>&\u2028\u202
 
 
 def objects_in(text):
-    return [json.loads(line) for line in text.splitlines()]
+    return [json.loads(line) for line in text.split('\n') if line]
 
 
 def units(plan):
