@@ -30,10 +30,11 @@ def large():
 
 
 def hostile():
-    """A member that depends on a package for each name. Each has a feature for each name, which its default feature turns on."""
-    features = {'default': list(HOSTILE), **{name: [] for name in HOSTILE}}
+    """A member that depends on a package for each name. Each has a feature for each name: its default feature turns on those that an item can
+    name, and the member asks some packages for all."""
+    features = {'default': [name for name in HOSTILE if '/' not in name], **{name: [] for name in HOSTILE}}
     packages = [gen_document.Package(f'{name}.', [], features) for name in HOSTILE]
-    declared = [gen_document.Declaration(it.name, (HOSTILE[0],), SPEC if ix % 2 else None) for ix, it in enumerate(packages)]
+    declared = [gen_document.Declaration(it.name, HOSTILE if ix % 2 else (), SPEC if ix % 3 else None) for ix, it in enumerate(packages)]
     document = gen_document.document_of([gen_document.member(declared, features, HOSTILE[0]), *packages])
     for node in document['resolve']['nodes']:
         for it in node['deps']:

@@ -121,7 +121,7 @@ def searched(it, name, word):
     it.page.type(word)
     wanted = {f'{shown(unit["name"])} {unit["version"]}' for unit in packages_of(it).values() if word in f'{unit["name"]}@{unit["version"]}'.lower()}
     found = [text for text in it.texts('#results .row') if '/' not in text]
-    yield outcome(f'{name}: packages that are found by {word}', sorted(set(found[:40]) - wanted) or not found, [])
+    yield outcome(f'{name}: packages that are found by {word}', (sorted(set(found[:40]) - wanted), len(found) > 0), ([], True))
     it.press('ArrowDown', 'Enter')
     it.settle()
     yield outcome(f'{name}: the first one by its key', (it.view(), (it.texts('#view h1') or [''])[0].split('/')[0]), ('package', found[0]))
