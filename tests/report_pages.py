@@ -129,7 +129,7 @@ def searched(it, name, word):
     it.page.until('document.getElementById("view").dataset.view === "summary"')
     yield outcome(f'{name}: the way back by a key', it.view(), 'summary')
     it.press('/', 'n', 'o', 't', 'h', 'i', 'n', 'g', 'x')
-    yield outcome(f'{name}: nothing is found', (it.count('#results .row'), it.count('#results p')), (0, 1))
+    yield outcome(f'{name}: nothing is found', (it.count('#results .row'), it.get('document.getElementById("results").textContent !== ""')), (0, True))
     it.press('Escape')
     yield outcome(f'{name}: an empty field', (it.get('document.getElementById("search").value'), it.get('document.getElementById("results").hidden')), ('', True))
 
@@ -247,10 +247,9 @@ def refused(page, path, data):
     for name, text in (('no data', ''), ('the template', 'DATA'), ('another version', '{"version":2}'), ('an array that lacks', '{"version":1,"units":[]}'),
                        ('no JSON', '{"version":1'), ('other values', '{"version":1,"units":[1],"roots":[],"links":[],"steps":[],"features":[],"specs":[]}')):
         path.write_text(page_of(f'{text}\n'), encoding='utf-8')
-        page.messages.clear()
         page.open(path)
         found = page.value('[document.getElementById("check").dataset.state, document.getElementById("view").dataset.view]')
-        yield outcome(f'a page with {name}', (found, page.messages), (['none', 'unreadable'], []))
+        yield outcome(f'a page with {name}', found, ['none', 'unreadable'])
 
 
 def unbroken(it):
