@@ -127,6 +127,13 @@ def package_named(document, word):
     return found[0]["id"]
 
 
+def word_of(document, id):
+    """The word for a package in a list of candidates: `NAME@VERSION` if that names this package alone, and its id otherwise."""
+    package = next(p for p in document["packages"] if p["id"] == id)
+    word = f'{package["name"]}@{package["version"]}'
+    return word if packages_named(document, word) == [package] else id
+
+
 def outcome(document, selected, word, named=named):
     """What a word names as one value: ("named", parts), ("several", parts) or ("unknown",)."""
     try:
@@ -248,9 +255,35 @@ WORKED_RULES = [
     ([APP], "", ("unknown",)),
 ]
 
+# Packages with one version: one has the version of another with build metadata too, and the id of one is the word of another.
+SAME, BUILD, TWIN, OTHER_TWIN, TAKEN, ODD = "r#same@1.0.0", "r#same@1.0.0+b", "r#twin@1.0.0", "g#twin@1.0.0", "r#taken@1.0.0", "taken@1.0.0"
+ALIKE = {
+    "packages": [package(SAME, "same", "1.0.0"), package(BUILD, "same", "1.0.0+b"), package(TWIN, "twin", "1.0.0"), package(OTHER_TWIN, "twin", "1.0.0"),
+                 package(TAKEN, "taken", "1.0.0"), package(ODD, "odd", "1.0.0")]
+}
+
+# A document, the id of a package, and its word in a list of candidates.
+WORKED_WORDS = [
+    (DOCUMENT, OLD, "clap@3.2.25"),
+    (DOCUMENT, PRE, "clap@4.1.0-rc.1"),
+    (DOCUMENT, LOG, "log@0.4.17+extra"),
+    (DOCUMENT, OTHER, "other@0.2.0"),
+    (ALIKE, SAME, SAME),
+    (ALIKE, BUILD, "same@1.0.0+b"),
+    (ALIKE, TWIN, TWIN),
+    (ALIKE, OTHER_TWIN, OTHER_TWIN),
+    (ALIKE, TAKEN, TAKEN),
+    (ALIKE, ODD, "odd@1.0.0"),
+]
+
 
 def main():
     passed = failed = 0
+    for document, id, wanted in WORKED_WORDS:
+        found = word_of(document, id)
+        passed, failed = passed + (found == wanted), failed + (found != wanted)
+        if found != wanted:
+            print("the word of %s: %s, and not %s" % (id, found, wanted))
     rows = [(named, *row) for row in WORKED] + [(matching, *row) for row in WORKED_RULES]
     for model, selected, word, wanted in rows:
         found = outcome(DOCUMENT, selected, word, model)

@@ -143,9 +143,9 @@ def plan_faults(cases):
     yield 'no package', command, ['-p', 'nobody'], f'no package of the document fits `nobody`: {spec}'
     yield 'the second word', command, ['-p', 'tool', '-p', 'tool@2'], f'no package of the document fits `tool@2`: {spec}'
     yield 'a pattern', command, ['-p', 'tool', '-p', 'x*'], f'no package of the document fits `x*`: {spec}'
-    ids = f'\n  {at}/ext/new#old@1.10.0\n  {at}/ext/old#1.2.3'
-    yield 'several packages', others, ['-p', 'old'], f'several packages fit `old`: write NAME@VERSION or one of these ids{ids}'
-    yield 'several packages of a version', others, ['-p', 'old@1'], f'several packages fit `old@1`: write NAME@VERSION or one of these ids{ids}'
+    both = '\n  old@1.10.0\n  old@1.2.3'
+    yield 'several packages', others, ['-p', 'old'], f'several packages fit `old`: write one of these{both}'
+    yield 'several packages of a version', others, ['-p', 'old@1'], f'several packages fit `old@1`: write one of these{both}'
     for word in (['-F', 'x'], ['--all-features'], ['--no-default-features']):
         yield f'{word[0]} of no member', others, ['-p', 'leaf', *word], needs
     yield 'a feature', command, ['-F', 'client/http,no', '--workspace'], f'no selected member has `no`: {member}'

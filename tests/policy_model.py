@@ -216,12 +216,12 @@ def message_of(file, fault):
     return place_of(file, fault.args[0]) + PROBLEMS[fault.args[1]]
 
 
-def check_message_of(file, fault, selection):
+def check_message_of(file, fault, selection, document):
     """The message about an Uncheckable policy."""
     line, (kind, word, *parts) = fault.args
     if kind == 'several':
         return f'{place_of(file, line)}`{word}` has several meanings: write one of these' + ''.join(
-            f'\n  {id}' + ('' if name is None else f'/{name}') for id, name in parts[0])
+            f'\n  {name_model.word_of(document, id)}' + ('' if name is None else f'/{name}') for id, name in parts[0])
     others = [it.triple for it in selection.targets if it.triple != selection.host.triple]
     return f'{place_of(file, line)}`{word}` is neither the host nor a target of this build: write one of these' + ''.join(
         f'\n  {it}' for it in [selection.host.triple, *others])

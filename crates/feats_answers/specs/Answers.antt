@@ -5,7 +5,7 @@ use Rattle.cargo_plans.specs.Plans.{WordsText}
 use Rattle.plan_names.specs.Faults.{package_named}
 use Rattle.plan_rows.specs.platforms.DeclaredSpecs.{declared_specs}
 use Rattle.cargo_plans.specs.plan_steps.Plans.{PlanText}
-use Rattle.feats_words.specs.Requests.{QuestionText, check, dot, duplicates, list, plan, slim, specs, tree, why, why_not}
+use Rattle.feats_words.specs.Requests.{QuestionText, check, dot, duplicates, list, plan, report, slim, specs, tree, why, why_not}
 use Rattle.feats_answers.specs.AnswerTexts.{AnswerText}
 pub use Rattle.feats_answers.specs.AnswerTexts.{IsPositive}
 use Rattle.feats_answers.specs.Asked.{AskedText}
@@ -16,6 +16,7 @@ use Rattle.feats_answers.specs.NameMessages.{IsNameRefusal}
 use Rattle.feats_answers.specs.Parts.{IsPartRefusal}
 use Rattle.feats_answers.specs.PlanTexts.{text_of_units}
 use Rattle.feats_answers.specs.PolicyTexts.{IsCheckAnswer, IsCheckRefusal}
+use Rattle.feats_answers.specs.ReportTexts.{IsReportText}
 use Rattle.feats_answers.specs.SlimTexts.{IsNoSlim, IsSlimBy}
 use Rattle.feats_answers.specs.SpecTexts.{IsSpecText, places}
 use Rattle.feats_answers.specs.WhyNotTexts.{IsWhyNotAnswer}
@@ -32,6 +33,7 @@ Answers (list word) a w words build = IsPositive (IsListText a.arguments.format 
 Answers (duplicates alone) a w words build = IsPositive (IsDuplicatesText a.arguments.format alone a.targets w words build)
 Answers (tree invert) a w words build = IsTreeBy a.arguments.edges a w words build invert
 Answers dot a w words build = IsDotBy a.arguments.edges a.targets w words build
+Answers report a w words build = IsPositive (IsReportText a.targets w (declared_specs w.packages) words build)
 Answers (check file every_choice strict) a w words build = IsCheckAnswer a w (declared_specs w.packages) words build file every_choice
 Answers (slim file) a w words build = IsPositive (IsSlimBy a.arguments.format a.member_manifests w words build.units)
 
@@ -49,6 +51,7 @@ Refuses (list word) a w words build = IsNameRefusal w.packages (package_named w.
 Refuses (duplicates alone) a w words build = λ _. ⊥
 Refuses (tree invert) a w words build = IsNoTreeBy a.arguments.edges w words invert
 Refuses dot a w words build = λ _. ⊥
+Refuses report a w words build = λ _. ⊥
 Refuses (check file every_choice strict) a w words build = IsCheckRefusal a w (declared_specs w.packages) words build file every_choice
 Refuses (slim file) a w words build = IsNoSlim a.member_manifests
 

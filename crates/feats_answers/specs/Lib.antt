@@ -12,6 +12,7 @@ pub mod NameMessages
 pub mod Parts
 pub mod PlanTexts
 pub mod PolicyTexts
+pub mod ReportTexts
 pub mod SlimTexts
 pub mod SpecTexts
 pub mod TreeTexts

@@ -4,7 +4,7 @@ use Rattle.cargo_workspaces.specs.Workspaces.{Text, PackageText}
 use Rattle.plan_names.specs.Faults.{NameRefusal, unknown, several, out_of_memory}
 use Rattle.plan_names.specs.Names.{NamedText, PartText, whole, feature, dependency}
 use Rattle.feats_files.specs.Messages.{joined}
-use Rattle.feats_files.specs.Platforms.{id_at}
+use Rattle.feats_files.specs.PackageWords.{word_at}
 use Rattle.shown_texts.specs.Shown.{escaped}
 
 -- What follows the package in the name of a part.
@@ -18,9 +18,9 @@ part_name whole = []
 part_name (feature name) = name
 part_name (dependency name) = name
 
--- The line of a candidate: the id of the package, and the part.
+-- The line of a candidate: the word for the package, and the part.
 abbrev pub part_line : List PackageText → NamedText → Text
-part_line packages n = joined (codes "\n  " ∷ escaped (id_at packages n.owner) ∷ part_mark n.part ∷ escaped (part_name n.part) ∷ [])
+part_line packages n = joined (codes "\n  " ∷ escaped (word_at packages n.owner) ∷ part_mark n.part ∷ escaped (part_name n.part) ∷ [])
 
 abbrev pub several_message : List PackageText → Text → List NamedText → Text
 several_message packages word candidates = joined (codes "`" ∷ escaped word ∷ codes "` has several meanings: write one of these" ∷ []) ++ flat_map (part_line packages) candidates

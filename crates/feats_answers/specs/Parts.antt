@@ -1,5 +1,5 @@
 -- The parts of packages that a word names, and how they are called.
-use Rattle.std.specs.Prelude.{◌≡◌, List, [], ◌∷◌, Ok, false}
+use Rattle.std.specs.Prelude.{◌≡◌, ℕ, List, [], ◌∷◌, Bool, ◌||◌, Ok, false}
 use Rattle.cargo_workspaces.specs.Workspaces.{Text, PackageText, WorkspaceText}
 use Rattle.feature_labels.specs.Names.{LabelName}
 use Rattle.feature_labels.specs.Names.LabelName.{base, named, optional}
@@ -7,7 +7,7 @@ use Rattle.cargo_plans.specs.Plans.{WordsText, AfterWords}
 use Rattle.plan_names.specs.Faults.{parts_named}
 use Rattle.plan_names.specs.Names.{NamedText, PartText, whole, feature, dependency}
 use Rattle.plan_rows.specs.declared.side.Side.{Side}
-use Rattle.plan_rows.specs.declared.side.Side.TheVariants.{Target}
+use Rattle.plan_rows.specs.declared.side.Side.TheVariants.{Target, Host}
 use Rattle.plan_whys.specs.Steps.{SpotText}
 use Rattle.feats_why.specs.Labels.{spot_label}
 use Rattle.feats_answers.specs.NameMessages.{IsNameRefusal}
@@ -16,6 +16,10 @@ abbrev pub label_of_part : PartText → LabelName
 label_of_part whole = base
 label_of_part (feature name) = named name
 label_of_part (dependency name) = optional name
+
+-- Whether a part is built on a side. `built side p label` is whether a part of package `p` is built.
+abbrev pub is_anywhere : (Side → ℕ → LabelName → Bool) → NamedText → Bool
+is_anywhere built part = built Target part.owner (label_of_part part.part) || built Host part.owner (label_of_part part.part)
 
 -- A part on a side.
 abbrev pub spot_on : Side → NamedText → SpotText

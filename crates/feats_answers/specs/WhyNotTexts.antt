@@ -1,5 +1,5 @@
 -- The text about which wider selections turn on a feature that isn't built.
-use Rattle.std.specs.Prelude.{◌≡◌, ℕ, List, Bool, not, ◌||◌, filter, map, codes}
+use Rattle.std.specs.Prelude.{◌≡◌, ℕ, List, Bool, not, filter, map, codes}
 use Rattle.std.specs.List.{AllZip}
 use Rattle.cargo_plans.specs.built_parts.Built.{is_part_built}
 use Rattle.feature_labels.specs.Names.{LabelName}
@@ -9,7 +9,6 @@ use Rattle.plan_names.specs.Names.{NamedText}
 use Rattle.plan_rows.specs.platforms.DeclaredSpecs.{DeclaredText}
 use Rattle.plan_rows.specs.platforms.HeldSpecs.{is_declared}
 use Rattle.plan_rows.specs.declared.side.Side.{Side}
-use Rattle.plan_rows.specs.declared.side.Side.TheVariants.{Target, Host}
 use Rattle.cargo_plans.specs.plan_steps.Plans.{PlanText}
 use Rattle.feats_why_not.specs.Parts.{PartText}
 use Rattle.feats_why_not.specs.Texts.{IsWhyNotText}
@@ -17,18 +16,15 @@ use Rattle.feats_why_not.specs.Typed.{is_single}
 use Rattle.feats_words.specs.declared.command_arguments.Format.{Format}
 use Rattle.feats_answers.specs.AnswerTexts.{AnswerText}
 use Rattle.feats_answers.specs.Gathered.{gathered}
-use Rattle.feats_answers.specs.Parts.{ArePartsOf, label_of_part}
-
--- Whether a part is built on no side. `built side p label` is whether a part of package `p` is built.
-abbrev pub is_part_off : (Side → ℕ → LabelName → Bool) → NamedText → Bool
-is_part_off built part = not (built Target part.owner (label_of_part part.part) || built Host part.owner (label_of_part part.part))
+use Rattle.feats_answers.specs.Parts.{ArePartsOf, is_anywhere, label_of_part}
 
 -- The part as a label of its package.
 abbrev pub off_part : NamedText → PartText
 off_part part = record { number = part.owner; label = label_of_part part.part }
 
+-- Those of the parts that are built on no side. `built side p label` is whether a part of package `p` is built.
 abbrev pub parts_off : (Side → ℕ → LabelName → Bool) → List NamedText → List PartText
-parts_off built parts = map off_part (filter (is_part_off built) parts)
+parts_off built parts = map off_part (filter (λ part. not (is_anywhere built part)) parts)
 
 -- Those of the parts that aren't built in the plan.
 abbrev pub off_parts : Bool → PlanText → List NamedText → List PartText

@@ -1,21 +1,14 @@
 -- The parts that a word of `why` names.
-use Rattle.std.specs.Prelude.{◌≡◌, ℕ, List, [], ◌∷◌, Bool, ◌||◌, Result, Ok, Err, filter}
+use Rattle.std.specs.Prelude.{◌≡◌, ℕ, List, [], ◌∷◌, Bool, Result, Ok, Err, filter}
 use Rattle.cargo_plans.specs.Plans.{AfterWords, WordsText}
 use Rattle.cargo_plans.specs.built_parts.Built.{is_part_built}
 use Rattle.cargo_plans.specs.plan_steps.Plans.{PlanText}
 use Rattle.cargo_workspaces.specs.Workspaces.{Text, WorkspaceText}
-use Rattle.feature_labels.specs.Names.{LabelName}
 use Rattle.plan_names.specs.Faults.{NameRefusal, several}
 use Rattle.plan_names.specs.Matches.{parts_matching}
 use Rattle.plan_names.specs.Names.{NamedText}
-use Rattle.plan_rows.specs.declared.side.Side.{Side}
-use Rattle.plan_rows.specs.declared.side.Side.TheVariants.{Target, Host}
 use Rattle.feats_answers.specs.NameMessages.{IsNameRefusal}
-use Rattle.feats_answers.specs.Parts.{label_of_part}
-
--- Whether a part is built on a side. `built side p label` is whether a part of package `p` is built.
-abbrev pub is_anywhere : (Side → ℕ → LabelName → Bool) → NamedText → Bool
-is_anywhere built part = built Target part.owner (label_of_part part.part) || built Host part.owner (label_of_part part.part)
+use Rattle.feats_answers.specs.Parts.{is_anywhere}
 
 -- The built ones of the candidates, or a refusal if there are none: then the word has several meanings.
 abbrev pub those_or_several : Text → List NamedText → List NamedText → Result (List NamedText) NameRefusal
@@ -35,6 +28,6 @@ why_parts w words plan selected word =
 abbrev pub AreWhyParts : WorkspaceText → WordsText → PlanText → Text → List NamedText → Type 0
 AreWhyParts w words plan word parts = AfterWords w words (λ chosen. why_parts w words plan chosen.selected word ≡ Ok parts)
 
--- The message why the word names none, or several of which none is built.
+-- The message that refuses the word: it names nothing, or several parts of which none is built.
 abbrev pub IsWhyRefusal : WorkspaceText → WordsText → PlanText → Text → Text → Type 0
 IsWhyRefusal w words plan word message = AfterWords w words (λ chosen. IsNameRefusal w.packages (why_parts w words plan chosen.selected word) message)

@@ -18,6 +18,7 @@ ghost use Rattle.feats_answers.specs.ListTexts.{IsListText};
 ghost use Rattle.feats_answers.specs.NameMessages.{IsNameRefusal};
 ghost use Rattle.feats_answers.specs.Parts.{IsPartRefusal};
 ghost use Rattle.feats_answers.specs.PlanTexts.{text_of_units};
+ghost use Rattle.feats_answers.specs.ReportTexts.{IsReportText};
 ghost use Rattle.feats_answers.specs.SlimTexts.{IsNoSlim, IsSlimBy};
 ghost use Rattle.feats_answers.specs.SpecTexts.{IsSpecText, places};
 ghost use Rattle.feats_answers.specs.WhyNotTexts.{IsWhyNotAnswer};
@@ -34,6 +35,7 @@ use crate::off_parts::off_parts;
 use crate::parts::parts_of;
 use crate::plan_texts::text_of_units;
 use crate::policy_texts::{PolicyWord, check_answer};
+use crate::report_texts::report_of;
 use crate::slim_texts::slim_text;
 use crate::spec_texts::spec_text;
 use crate::why_parts::why_parts_of;
@@ -149,6 +151,22 @@ fn why_not_answer<'w, 's>(
     Ok(gathered(alloc, format, workspace, word, &named, end, &texts)?)
 }
 
+/// Returns the answer to `report`.
+fn report_answer<'n>(
+    alloc: Global,
+    files: &[PlatformFile<'n>],
+    workspace: &Workspace<'_>,
+    specs: &[DeclaredSpec<'_>],
+    words: &PlanWords<'_, 'n, HeldSpecs<'_>>,
+    plan: &Plan<'_>,
+) -> Result<Answer, AllocError>
+    requires plan { IsPlanOf (workspace_text workspace.now) (words_text holds_on words.now) (plan_text plan.now) }
+    ensures { IfOk result (λ answer. IsPositive (IsReportText (map file_text files.now) (workspace_text workspace.now) (map declared_text specs.now) (words_text holds_on words.now) (plan_text plan.now)) (answer_text answer)) }
+{
+    let text = report_of(alloc, files, workspace, specs, words, plan)?;
+    Ok(positive(text))
+}
+
 /// Returns the answer to `slim`, by the manifests in `bytes`.
 fn slim_answer<'w>(
     alloc: Global,
@@ -205,6 +223,7 @@ pub fn answer_to<'w, 'n, 's>(
             answer_to_edge_tree(alloc, asked, workspace, words, plan, invert)
         }
         Question::Dot => Ok(answer_to_edge_dot(alloc, asked, workspace, words, plan)?),
+        Question::Report => Ok(report_answer(alloc, files, workspace, specs, words, plan)?),
         Question::Check {
             policy: file,
             every_choice,

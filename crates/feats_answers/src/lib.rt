@@ -16,6 +16,7 @@ mod parts;
 mod places;
 mod plan_texts;
 mod policy_texts;
+mod report_texts;
 mod slim_texts;
 mod spec_texts;
 mod tree_texts;

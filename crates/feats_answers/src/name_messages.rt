@@ -7,7 +7,7 @@ ghost use Rattle.feats_files.specs.Messages.{Says};
 ghost use Rattle.feats_answers.specs.NameMessages as spec;
 
 use cargo_workspaces::Workspace;
-use feats_files::{Fault, id_at, push_escaped};
+use feats_files::{Fault, push_escaped, push_package};
 use plan_names::{NameFault, Named, Part, suggestions};
 use std::alloc::{AllocError, Global};
 
@@ -42,7 +42,7 @@ fn push_candidate(
     ensures { OnOk result (string_bytes text.new ≡ string_bytes text.old ++ spec.part_line (workspace_text workspace.now).packages (named_text candidate.entry)) }
 {
     text.push_str("\n  ")?;
-    push_escaped(alloc, text, id_at(workspace, candidate.package))?;
+    push_package(alloc, text, workspace, candidate.package)?;
     text.push_str(part_mark(candidate.part))?;
     push_escaped(alloc, text, part_name(candidate.part))?;
     Ok(())
@@ -66,24 +66,6 @@ fn several_message(
     Ok(text)
 }
 
-/// Appends a part that may be meant.
-fn push_suggestion(
-    alloc: Global,
-    text: &mut String,
-    workspace: &Workspace<'_>,
-    named: Named<'_>,
-) -> Result<(), AllocError> {
-    if let Some(package) = workspace.packages().get(named.package) {
-        text.push_str("\n  ")?;
-        push_escaped(alloc, text, package.name)?;
-        text.push_str("@")?;
-        push_escaped(alloc, text, package.version)?;
-        text.push_str(part_mark(named.part))?;
-        push_escaped(alloc, text, part_name(named.part))?;
-    }
-    Ok(())
-}
-
 /// Returns the text of parts that may be meant.
 fn text_of_suggestions(
     alloc: Global,
@@ -95,7 +77,7 @@ fn text_of_suggestions(
     }
     let mut text = String::from_str(alloc, ": did you mean one of these?")?;
     for one in named {
-        push_suggestion(alloc, &mut text, workspace, *one)?;
+        push_candidate(alloc, &mut text, workspace, *one)?;
     }
     Ok(text)
 }

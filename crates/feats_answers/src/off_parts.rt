@@ -6,21 +6,12 @@ ghost use Rattle.cargo_plans.specs.plan_steps.PlanViews.{plan_text};
 ghost use Rattle.feats_why_not.specs.PartView.{part_text};
 ghost use Rattle.feats_answers.specs.WhyNotTexts as spec;
 
-use crate::parts::label_of;
+use crate::parts::{is_anywhere, label_of};
+use cargo_plans::Plan;
 use cargo_plans::built_parts::BuiltParts;
-use cargo_plans::{Plan, Side};
 use feats_why_not::OffPart;
 use plan_names::Named;
 use std::alloc::{AllocError, Global};
-
-/// Returns whether `named` is built on no side, in the plan whose built parts are `built`.
-fn is_part_off(built: &BuiltParts<'_>, named: Named<'_>) -> bool
-    ensures { result ≡ spec.is_part_off (is_built_in built.now) (named_text named.entry) }
-{
-    let label = label_of(named.part);
-    !(built.is_built(Side::Target, named.package, label)
-        || built.is_built(Side::Host, named.package, label))
-}
 
 /// Returns `named` as a label of its package.
 fn off_part(named: Named<'_>) -> OffPart<'_>
@@ -42,7 +33,7 @@ fn unbuilt_parts<'w>(
 {
     let mut parts = Vec::new(alloc);
     for one in named {
-        if is_part_off(built, *one) {
+        if !is_anywhere(built, *one) {
             parts.push(off_part(*one))?;
         }
     }

@@ -2,6 +2,7 @@
 ghost use Rattle.std.specs.Prelude.{◌≡◌, Ok, IfOk, IfErr, map, string_bytes};
 ghost use Rattle.cargo_workspaces.specs.WorkspaceView.{workspace_text};
 ghost use Rattle.cargo_plans.specs.WordsView.{words_text};
+ghost use Rattle.cargo_plans.specs.built_parts.BuiltViews.{is_built_in};
 ghost use Rattle.feature_labels.specs.Names as labels;
 ghost use Rattle.plan_names.specs.Faults.{parts_named};
 ghost use Rattle.plan_names.specs.Views.{named_text, part_text};
@@ -12,6 +13,7 @@ ghost use Rattle.feats_answers.specs.NameMessages.{IsNameRefusal};
 ghost use Rattle.feats_answers.specs.Parts as spec;
 
 use crate::name_messages::name_refused;
+use cargo_plans::built_parts::BuiltParts;
 use cargo_plans::{PlanWords, Side};
 use cargo_workspaces::Workspace;
 use feats_files::Fault;
@@ -32,6 +34,15 @@ pub(crate) fn label_of(part: Part<'_>) -> FeatureLabel<'_>
         Part::Feature(name) => FeatureLabel::Named(name),
         Part::Dependency(name) => FeatureLabel::OptionalDependency(name),
     }
+}
+
+/// Returns whether `named` is built on a side.
+pub(crate) fn is_anywhere(built: &BuiltParts<'_>, named: Named<'_>) -> bool
+    ensures { result ≡ spec.is_anywhere (is_built_in built.now) (named_text named.entry) }
+{
+    let label = label_of(named.part);
+    built.is_built(Side::Target, named.package, label)
+        || built.is_built(Side::Host, named.package, label)
 }
 
 /// Returns the spot of `named` on `side`.

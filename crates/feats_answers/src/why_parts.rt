@@ -9,12 +9,13 @@ ghost use Rattle.plan_names.specs.Views.{named_text};
 ghost use Rattle.plan_rows.specs.platforms.HeldSpecs.{holds_on};
 ghost use Rattle.feats_files.specs.Messages.{Says};
 ghost use Rattle.feats_answers.specs.NameMessages.{IsNameRefusal};
+ghost use Rattle.feats_answers.specs.Parts.{is_anywhere};
 ghost use Rattle.feats_answers.specs.WhyParts as spec;
 
 use crate::name_messages::name_refused;
-use crate::parts::label_of;
+use crate::parts::is_anywhere;
 use cargo_plans::built_parts::BuiltParts;
-use cargo_plans::{Plan, PlanWords, Side};
+use cargo_plans::{Plan, PlanWords};
 use cargo_workspaces::Workspace;
 use feats_files::Fault;
 use plan_names::{NameFault, Named, parts_matching};
@@ -22,22 +23,13 @@ use plan_rows::platforms::HeldSpecs;
 use plan_words::choose;
 use std::alloc::{AllocError, Global};
 
-/// Returns whether `named` is built on a side.
-fn is_anywhere(built: &BuiltParts<'_>, named: Named<'_>) -> bool
-    ensures { result ≡ spec.is_anywhere (is_built_in built.now) (named_text named.entry) }
-{
-    let label = label_of(named.part);
-    built.is_built(Side::Target, named.package, label)
-        || built.is_built(Side::Host, named.package, label)
-}
-
 /// Returns those of `candidates` that are built.
 fn built_among<'w>(
     alloc: Global,
     built: &BuiltParts<'_>,
     candidates: &[Named<'w>],
 ) -> Result<Vec<Named<'w>>, AllocError>
-    ensures { IfOk result (λ named. map named_text named.items ≡ filter (spec.is_anywhere (is_built_in built.now)) (map named_text candidates.now)) }
+    ensures { IfOk result (λ named. map named_text named.items ≡ filter (is_anywhere (is_built_in built.now)) (map named_text candidates.now)) }
 {
     let mut named = Vec::new(alloc);
     for candidate in candidates {
@@ -55,7 +47,7 @@ fn those_built<'w>(
     plan: &Plan<'_>,
     candidates: &[Named<'w>],
 ) -> Result<Vec<Named<'w>>, AllocError>
-    ensures { IfOk result (λ named. map named_text named.items ≡ filter (spec.is_anywhere (is_part_built split (plan_text plan.now))) (map named_text candidates.now)) }
+    ensures { IfOk result (λ named. map named_text named.items ≡ filter (is_anywhere (is_part_built split (plan_text plan.now))) (map named_text candidates.now)) }
 {
     let built = BuiltParts::of_plan(alloc, split, plan)?;
     built_among(alloc, &built, candidates)

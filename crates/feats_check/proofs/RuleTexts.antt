@@ -109,7 +109,7 @@ module _ (packages : List PackageText) (words : WordsText) where
       ∙ texts_mapped (λ r own. verdict_lines file judged r (gapped own)) (text_by format.Text file judged packages words) (found_lines packages words)
       (λ r xs. ap (verdict_lines file judged r) (gapped_lines xs)) vs fs
 
--- what is appended to an empty text
+-- Appending a text to an empty text returns the same text.
 pub onto_none : (old new more : Text) → old ≡ [] → new ≡ old ++ more → new ≡ more
 onto_none old new more none grown = grown ∙ ap (λ z. z ++ more) none
 

@@ -2,6 +2,7 @@ pub mod Documents
 pub mod FileViews
 pub mod Files
 pub mod Messages
+pub mod PackageWords
 pub mod Parts
 pub mod Platforms
 pub mod Showing

@@ -14,7 +14,7 @@ use platform_specs::TargetCfg;
 use std::alloc::Global;
 
 /// Returns the id of package `ix`; no text, if there is no such package.
-pub fn id_at<'w>(workspace: &'w Workspace<'_>, ix: usize) -> &'w str
+pub(crate) fn id_at<'w>(workspace: &'w Workspace<'_>, ix: usize) -> &'w str
     ensures { result.now ≡ spec.id_at (workspace_text workspace.now).packages ix }
 {
     match workspace.packages().get(ix) {

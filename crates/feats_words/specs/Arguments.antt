@@ -11,7 +11,7 @@ use Rattle.feats_words.specs.Edges.{edges}
 use Rattle.feats_words.specs.FeatureWords.{words_in}
 use Rattle.feats_words.specs.PlatformWords.{PlatformText, platform_word}
 use Rattle.feats_words.specs.Refusals.{Refusal, bad_platform, bad_resolver, two_resolvers, bad_format, graph_format, packages_of_every_choice, exclude_alone, each, ◌>>=◌}
-use Rattle.feats_words.specs.Requests.{QuestionText, RequestText, check, dot}
+use Rattle.feats_words.specs.Requests.{QuestionText, RequestText, check, dot, report}
 use Rattle.feats_words.specs.declared.command_arguments.Format.{Format}
 use Rattle.feats_words.specs.declared.command_arguments.Format.TheVariants.{Text as text_format, Json as json_format}
 use Rattle.feats_words.specs.declared.edges.Edges.{Edges}
@@ -66,9 +66,14 @@ format_named word =
 abbrev pub format : Option Text → Result Format Refusal
 format word = option_map_or format_named word (Ok text_format)
 
+-- The data of a page is JSON, whichever format is named.
+abbrev pub report_format : Option Text → Result Format Refusal
+report_format word = format word >>= λ named. Ok json_format
+
 -- The format of an answer to a question. `dot` takes none.
 abbrev pub format_for : QuestionText → Option Text → Result Format Refusal
 format_for dot (Some word) = Err graph_format
+format_for report word = report_format word
 format_for _ word = format word
 
 -- A question about every choice is about all members, so no package is selected, and none excluded.
@@ -76,7 +81,7 @@ abbrev pub all_members : QuestionText → List Text → Result (Unit {0}) Refusa
 all_members (check file true strict) (word ∷ words) = Err packages_of_every_choice
 all_members _ words = Ok tt
 
--- Members are excluded from all members only.
+-- `--exclude` needs `--workspace`.
 abbrev pub of_all_members : Bool → List Text → Result (Unit {0}) Refusal
 of_all_members false (word ∷ words) = Err exclude_alone
 of_all_members _ words = Ok tt

@@ -48,8 +48,12 @@ selection_rules =
 abbrev pub command_shape : Text → List Rule → Shape
 command_shape name words = record (new_shape name) { rules = words ++ (document_rule ∷ (platform_rules ++ selection_rules)) }
 
+-- The option that asks for the data of a page: of `diff`, and of a build that `diff` compares.
+abbrev pub report_rule : Rule
+report_rule = flag_rule (codes "report")
+
 abbrev pub plan_shape : Shape
-plan_shape = command_shape (codes "plan") []
+plan_shape = command_shape (codes "plan") (report_rule ∷ [])
 
 abbrev pub why_shape : Shape
 why_shape = command_shape (codes "why") (word_rule (codes "feature") ∷ flag_rule (codes "all") ∷ [])
@@ -80,13 +84,16 @@ tree_shape = command_shape (codes "tree") (short_rule (codes "invert") 105 ∷ o
 abbrev pub dot_shape : Shape
 dot_shape = command_shape (codes "dot") (edges_rule ∷ [])
 
+abbrev pub report_shape : Shape
+report_shape = command_shape (codes "report") []
+
 abbrev pub check_shape : Shape
 check_shape = command_shape (codes "check") (word_rule (codes "policy") ∷ flag_rule (codes "every-choice") ∷ flag_rule (codes "strict") ∷ [])
 
 -- The command about two documents, which are words.
 abbrev pub diff_shape : Shape
 diff_shape = record (new_shape (codes "diff")) {
-  rules = (word_rule (codes "old") ∷ word_rule (codes "new") ∷ option_rule (codes "old-manifest") ∷ []) ++ (platform_rules ++ selection_rules);
+  rules = (word_rule (codes "old") ∷ word_rule (codes "new") ∷ option_rule (codes "old-manifest") ∷ report_rule ∷ []) ++ (platform_rules ++ selection_rules);
 }
 
 abbrev pub slim_shape : Shape
@@ -103,4 +110,4 @@ with_all app (shape ∷ shapes) = with_all (with_subcommand app shape) shapes
 abbrev pub feats_app : App
 feats_app =
     with_all bare_app
-    (plan_shape ∷ why_shape ∷ why_not_shape ∷ specs_shape ∷ list_shape ∷ duplicates_shape ∷ tree_shape ∷ dot_shape ∷ check_shape ∷ diff_shape ∷ slim_shape ∷ [])
+    (plan_shape ∷ why_shape ∷ why_not_shape ∷ specs_shape ∷ list_shape ∷ duplicates_shape ∷ tree_shape ∷ dot_shape ∷ report_shape ∷ check_shape ∷ diff_shape ∷ slim_shape ∷ [])

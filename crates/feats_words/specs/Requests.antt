@@ -11,7 +11,7 @@ texts = map (λ t. t.now)
 
 -- The question that a command asks about a build. `why` also says whether every direct reason is wanted, `duplicates` whether the selected
 -- members are planned alone too, and `check`, whose word is the policy's file, whether it asks about every choice and whether each word of a
--- rule must name something. `slim` may name the file of the manifests.
+-- rule must name something. `slim` may name the file of the manifests. `report` asks for the data of a page.
 pub data QuestionText : Type 0 where
   plan : QuestionText
   why : Text → Bool → QuestionText
@@ -21,6 +21,7 @@ pub data QuestionText : Type 0 where
   duplicates : Bool → QuestionText
   tree : Option Text → QuestionText
   dot : QuestionText
+  report : QuestionText
   check : Text → Bool → Bool → QuestionText
   slim : Option Text → QuestionText
 
@@ -63,10 +64,14 @@ document rows = unwrap_or (value (codes "metadata") rows) (required_value (codes
 abbrev pub is_given : Text → List Row → Bool
 is_given name rows = option_map_or (λ value. bytes_eq value (codes "true")) (first_of name rows) false
 
+-- The question about what is built. With --report the data of a page is wanted.
+abbrev pub built : List Row → QuestionText
+built rows = if is_given (codes "report") rows then report else plan
+
 -- The question of the command with a name, by the rows of its words. `diff` compares what is built.
 abbrev pub question_of : Text → List Row → Option QuestionText
 question_of name rows =
-    if bytes_eq name (codes "plan") then Some plan
+    if bytes_eq name (codes "plan") then Some (built rows)
     else (if bytes_eq name (codes "why") then Some (why (required_value (codes "feature") rows) (is_given (codes "all") rows))
     else (if bytes_eq name (codes "why-not") then Some (why_not (required_value (codes "feature") rows))
     else (if bytes_eq name (codes "specs") then Some specs
@@ -74,10 +79,11 @@ question_of name rows =
     else (if bytes_eq name (codes "duplicates") then Some (duplicates (is_given (codes "alone") rows))
     else (if bytes_eq name (codes "tree") then Some (tree (value (codes "invert") rows))
     else (if bytes_eq name (codes "dot") then Some dot
+    else (if bytes_eq name (codes "report") then Some report
     else (if bytes_eq name (codes "check") then Some (check (required_value (codes "policy") rows) (is_given (codes "every-choice") rows) (is_given (codes "strict") rows))
-    else (if bytes_eq name (codes "diff") then Some plan
+    else (if bytes_eq name (codes "diff") then Some (built rows)
     else (if bytes_eq name (codes "slim") then Some (slim (value (codes "member-manifests") rows))
-    else None))))))))))
+    else None)))))))))))
 
 abbrev pub asked : QuestionText → List Row → RequestText
 asked question rows = record {

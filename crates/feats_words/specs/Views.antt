@@ -1,6 +1,6 @@
 -- The values that Rust's types contain.
 use Rattle.std.specs.Prelude.{map, option_map}
-use Rattle.feats_words.specs.Requests.{QuestionText, RequestText, check, dot, duplicates, list, plan, slim, specs, texts, tree, why, why_not}
+use Rattle.feats_words.specs.Requests.{QuestionText, RequestText, check, dot, duplicates, list, plan, report, slim, specs, texts, tree, why, why_not}
 use Rattle.feats_words.specs.Arguments.{ArgumentsText, SourceText, version_given, manifest_at}
 use Rattle.feats_words.specs.PlatformWords.{PlatformText}
 use Rattle.feats_words.specs.declared.command_arguments.CommandArguments.{CommandArguments}
@@ -27,6 +27,7 @@ question_text (question.List word) = list word.now
 question_text (question.Duplicates alone) = duplicates alone
 question_text (question.Tree invert) = tree (option_map (λ t. t.now) invert)
 question_text question.Dot = dot
+question_text question.Report = report
 question_text (question.Check policy every_choice strict) = check policy.now every_choice strict
 question_text (question.Slim manifests) = slim (option_map (λ t. t.now) manifests)
 

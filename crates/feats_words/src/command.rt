@@ -6,10 +6,10 @@ ghost use Rattle.feats_words.specs.inner.Building.{IsMade, alone, with_rules};
 
 use crate::examples::{
     CHECK_EXAMPLE, DIFF_EXAMPLE, DIFF_RESOLVER_HELP, DOT_EXAMPLE, DUPLICATES_EXAMPLE, FEATURE_HELP,
-    LIST_EXAMPLE, PLAN_EXAMPLE, RESOLVER_HELP, SLIM_EXAMPLE, SPECS_EXAMPLE, TREE_EXAMPLE,
-    WHY_EXAMPLE, WHY_NOT_EXAMPLE,
+    LIST_EXAMPLE, PLAN_EXAMPLE, REPORT_EXAMPLE, RESOLVER_HELP, SLIM_EXAMPLE, SPECS_EXAMPLE,
+    TREE_EXAMPLE, WHY_EXAMPLE, WHY_FEATURE_HELP, WHY_NOT_EXAMPLE,
 };
-use crate::options::{flag, lettered, option, repeated, required, short, word};
+use crate::options::{edges, flag, lettered, option, repeated, report_flag, required, short, word};
 use clap::{Arg, Command};
 use std::alloc::{AllocError, Global};
 
@@ -209,11 +209,12 @@ fn worded<'a>(
 fn plan_command<'a>(alloc: Global) -> Made<'a>
     ensures { IfOk result (λ r. IsMade r (alone spec.plan_shape)) }
 {
-    wordless(
+    worded(
         alloc,
         "plan",
         "Prints the packages that Cargo builds, each with its features",
         PLAN_EXAMPLE,
+        report_flag(alloc, true),
     )
 }
 
@@ -227,7 +228,7 @@ fn why_command<'a>(alloc: Global) -> Made<'a>
         "Prints the steps from what is selected to a feature that is on",
         WHY_EXAMPLE,
     );
-    let command = with_arg(command, word(alloc, "feature", "FEATURE", FEATURE_HELP));
+    let command = with_arg(command, word(alloc, "feature", "FEATURE", WHY_FEATURE_HELP));
     let command = with_arg(
         command,
         flag(
@@ -299,20 +300,6 @@ fn duplicates_command<'a>(alloc: Global) -> Made<'a>
     )
 }
 
-/// Returns the option that says what the nodes of a tree or a graph are.
-fn edges<'a>(alloc: Global) -> Arg<'a>
-    ensures rule { rule_of result ≡ spec.edges_rule }
-    ensures local { result.global ≡ false }
-{
-    short(
-        alloc,
-        "edges",
-        'e',
-        "KIND",
-        "`packages` (the default), or `features`: print what turns on what",
-    )
-}
-
 /// Returns the command `tree`.
 fn tree_command<'a>(alloc: Global) -> Made<'a>
     ensures { IfOk result (λ r. IsMade r (alone spec.tree_shape)) }
@@ -356,6 +343,18 @@ fn dot_command<'a>(alloc: Global) -> Made<'a>
         DOT_EXAMPLE,
     );
     with_options(alloc, with_arg(command, edges(alloc)), true)
+}
+
+/// Returns the command `report`.
+fn report_command<'a>(alloc: Global) -> Made<'a>
+    ensures { IfOk result (λ r. IsMade r (alone spec.report_shape)) }
+{
+    wordless(
+        alloc,
+        "report",
+        "Prints the data of the page that `cargo feats report` writes, as JSON",
+        REPORT_EXAMPLE,
+    )
 }
 
 /// Returns the command `check`.
@@ -428,6 +427,7 @@ fn diff_command<'a>(alloc: Global) -> Made<'a>
             "The root manifest of the workspace of OLD; --manifest is that of NEW",
         ),
     );
+    let command = with_arg(command, report_flag(alloc, false));
     with_common(alloc, command, DIFF_RESOLVER_HELP, false)
 }
 
@@ -479,6 +479,7 @@ pub(crate) fn feats_command<'a>(alloc: Global) -> Result<Command<'a>, AllocError
     let command = with_command(command, duplicates_command(alloc));
     let command = with_command(command, tree_command(alloc));
     let command = with_command(command, dot_command(alloc));
+    let command = with_command(command, report_command(alloc));
     let command = with_command(command, check_command(alloc));
     let command = with_command(command, diff_command(alloc));
     with_command(command, slim_command(alloc))

@@ -133,12 +133,22 @@ fn format_of(word: Option<&str>) -> Result<Format, WordsFault<'_>>
     }
 }
 
-/// Returns the format that `word` names for the answer to `question`. `GraphFormat` if `dot` is given one.
+/// Returns JSON, the only format of the data of a page, or `Format` if `word` isn't a format.
+fn report_format(word: Option<&str>) -> Result<Format, WordsFault<'_>>
+    ensures { Gives (λ f. f) result (spec.report_format (option_map (λ t. t.now) word.entry)) }
+{
+    let _ = format_of(word)?;
+    Ok(Format::Json)
+}
+
+/// Returns the format that `word` names for the answer to `question`, or JSON for the data of a page. Returns `GraphFormat` if `dot` is
+/// given a format.
 fn format_for<'a>(question: Question<'_>, word: Option<&'a str>) -> Result<Format, WordsFault<'a>>
     ensures { Gives (λ f. f) result (spec.format_for (question_text question.entry) (option_map (λ t. t.now) word.entry)) }
 {
     match (question, word) {
         (Question::Dot, Some(_)) => Err(WordsFault::GraphFormat),
+        (Question::Report, word) => report_format(word),
         (_, word) => format_of(word),
     }
 }
@@ -160,7 +170,7 @@ fn all_members<'a>(question: Question<'_>, packages: &[&str]) -> Result<(), Word
     }
 }
 
-/// Returns `ExcludeAlone` if members are excluded, and not all members are selected.
+/// Returns `ExcludeAlone` if there is a word in `exclude` and `workspace` is false: `--exclude` needs `--workspace`.
 fn of_all_members<'a>(workspace: bool, exclude: &[&str]) -> Result<(), WordsFault<'a>>
     ensures { Gives (λ u. u) result (spec.of_all_members workspace (texts exclude.now)) }
 {

@@ -47,6 +47,13 @@ Example, with the files of `feats plan --help`:
   feats dot --metadata metadata.json --host x86_64-unknown-linux-gnu=host.cfg -p server | dot -Tsvg >server.svg
 ";
 
+pub(crate) const REPORT_EXAMPLE: &str = "\
+The data has the parts of `plan`, `why`, `list` and `specs`, and what depends on what. No `<`, `>` or `&` is in it.
+`--format text` and `--format json` print the same.
+Example, with the files of `feats plan --help`:
+  feats report --metadata metadata.json --host x86_64-unknown-linux-gnu=host.cfg -p server >server.json
+";
+
 pub(crate) const CHECK_EXAMPLE: &str = "\
 A policy has a rule on each line: `deny FEATURE [on TRIPLE]`, `require FEATURE` or `deny-duplicates SPEC`, each perhaps with `# REASON`.
 A `*` in a name stands for any text.
@@ -78,6 +85,10 @@ pub(crate) const RESOLVER_HELP: &str =
 pub(crate) const DIFF_RESOLVER_HELP: &str = "\
 The version of the resolver: 1, 2 or 3; without it OLD and NEW need --old-manifest and --manifest, and builds of one document have 2";
 
-/// The help of the word FEATURE.
+/// The help of the word FEATURE of `why`.
+pub(crate) const WHY_FEATURE_HELP: &str = "\
+SPEC/NAME, SPEC/dep:NAME, SPEC for the package itself, or a feature's name alone; `*` stands for any text in a name; if it names several things, each that is built is answered";
+
+/// The help of the word FEATURE of `why-not`.
 pub(crate) const FEATURE_HELP: &str = "\
 SPEC/NAME, SPEC/dep:NAME, SPEC for the package itself, or a feature's name alone; `*` stands for any text in a name";

@@ -18,7 +18,7 @@ pub enum WordsFault<'a> {
     GraphFormat,
     /// The question is about every choice, and `-p` selects packages, or `--exclude` leaves members out.
     PackagesOfEveryChoice,
-    /// Members are excluded, and not all members are selected.
+    /// `--exclude` is given without `--workspace`, which it needs.
     ExcludeAlone,
     /// The word isn't a decimal number.
     Depth(&'a str),

@@ -84,3 +84,30 @@ pub(crate) fn word<'a>(alloc: Global, name: &'a str, value: &'a str, help: &'a s
         .help(help)
         .required(true)
 }
+
+/// Returns the option that says what the nodes of a tree or a graph are.
+pub(crate) fn edges<'a>(alloc: Global) -> Arg<'a>
+    ensures rule { rule_of result ≡ spec.edges_rule }
+    ensures local { result.global ≡ false }
+{
+    short(
+        alloc,
+        "edges",
+        'e',
+        "KIND",
+        "`packages` (the default), or `features`: print what turns on what",
+    )
+}
+
+/// Returns the option that asks for the data of a page. `plan` takes it for a build of `diff`; its help hides the option.
+pub(crate) fn report_flag<'a>(alloc: Global, is_hidden: bool) -> Arg<'a>
+    ensures rule { rule_of result ≡ spec.report_rule }
+    ensures local { result.global ≡ false }
+{
+    flag(
+        alloc,
+        "report",
+        "Print the data of the page that `cargo feats diff --report` writes, as JSON",
+    )
+    .hide(is_hidden)
+}

@@ -36,6 +36,8 @@ pub enum Question<'a> {
     },
     /// What depends on what, as a graph?
     Dot,
+    /// What does the page about the build show?
+    Report,
     /// Which rules of the policy in this file are broken? With `every_choice`, which `deny` may some choice break? With `strict`, each word
     /// must name something.
     Check {
@@ -143,12 +145,23 @@ fn is_given(matches: &ArgMatches<'_>, name: &str) -> bool
     }
 }
 
+/// Returns the question about what is built: with `--report` the data of the page is wanted.
+fn built<'a>(matches: &ArgMatches<'_>) -> Question<'a>
+    ensures { question_text result ≡ spec.built (rows_of (found_of matches.now)) }
+{
+    if is_given(matches, "report") {
+        Question::Report
+    } else {
+        Question::Plan
+    }
+}
+
 /// Returns the question of the command with this name; `diff` compares what is built. None if there is no such command.
 fn question_of<'a>(name: &str, matches: &ArgMatches<'a>) -> Option<Question<'a>>
     ensures { option_map question_text result ≡ spec.question_of name.now (rows_of (found_of matches.now)) }
 {
     match name {
-        "plan" => Some(Question::Plan),
+        "plan" => Some(built(matches)),
         "why" => Some(Question::Why {
             feature: required_value(matches, "feature"),
             all: is_given(matches, "all"),
@@ -163,12 +176,13 @@ fn question_of<'a>(name: &str, matches: &ArgMatches<'a>) -> Option<Question<'a>>
             invert: value(matches, "invert"),
         }),
         "dot" => Some(Question::Dot),
+        "report" => Some(Question::Report),
         "check" => Some(Question::Check {
             policy: required_value(matches, "policy"),
             every_choice: is_given(matches, "every-choice"),
             strict: is_given(matches, "strict"),
         }),
-        "diff" => Some(Question::Plan),
+        "diff" => Some(built(matches)),
         "slim" => Some(Question::Slim {
             manifests: value(matches, "member-manifests"),
         }),

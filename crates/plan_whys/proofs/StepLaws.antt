@@ -14,13 +14,14 @@ use Rattle.cargo_plans.specs.plan_rows.declared.side.Side.TheVariants.{Target, H
 use Rattle.cargo_plans.specs.plan_starts.PackageVisits.{PairVisit}
 use Rattle.plan_starts.specs.step_visits.Visits.{is_start, node_at}
 use Rattle.plan_starts.proofs.Places.{node_back_at}
-use Rattle.walk_engine.specs.Explanations.{IsReason, nodes_of}
+use Rattle.walk_engine.specs.Explanations.{IsExplanation, IsReason, nodes_of}
 use Rattle.walk_engine.specs.Laws.{every}
 use Rattle.walk_engine.specs.Walks.{Content, Way, has_gate, is_in}
 use Rattle.walk_engine.specs.declared.walks.Half.{Half}
+use Rattle.walk_engine.specs.declared.walks.Step.{Step}
 use Rattle.walk_engine.specs.declared.walks.StepReason.{StepReason}
 use Rattle.walk_engine.specs.declared.walks.StepReason.TheVariants.{Initial, Edge, Offer}
-use Rattle.plan_whys.specs.Steps.{SpotText, ReasonText, WhyText, AreBacked, EndsAt, IsAt, IsBacked, IsReasonOf, IsStepOf, spot_at}
+use Rattle.plan_whys.specs.Steps.{SpotText, ReasonText, WhyText, AreBacked, AreStepsOf, EndsAt, IsAt, IsBacked, IsReasonOf, IsStepOf, spot_at}
 use Rattle.plan_whys.specs.Steps.ReasonText.{selected, from}
 use Rattle.plan_whys.specs.Whys.{Explains}
 use Rattle.plan_whys.proofs.SpotLemmas.{spot_if}
@@ -55,14 +56,18 @@ backed_by on c I A before n (Offer e h) (from start (Some gate)) spots earlier (
     let gate_listed : IsTrue (is_in before v.gate) = subst (λ (z : Way). IsTrue (has_gate z.ask h) → IsTrue (is_in before z.gate)) same gated waiting.0 in
     (earlier v.start start (subst (λ (z : Way). IsTrue (is_in before z.start)) same listed) at, earlier v.gate gate gate_listed waiting.1)
 
+-- the reasons of an explanation name spots of earlier steps
+pub steps_backed : (on : PairVisit) (c : Content) (I : ℕ → Bool) (steps : List Step) (whys : List WhyText) → IsExplanation c I every steps → AreStepsOf on c steps whys → AreBacked whys
+steps_backed on c I steps whys explanation shown k why at =
+    let here = zip_at (IsStepOf on c) steps whys k why shown at in
+    backed_by on c I every (take k (nodes_of steps)) here.0.node here.0.reason why.reason (map (λ y. y.spot) (take k whys))
+    (λ m spot listed at. earlier_at (IsStepOf on c) (IsAt on) (λ y. y.spot) steps whys k m spot (one_spot on) (λ step y r. r.0) shown listed at)
+    (explanation.reasons k here.0 here.1) here.2.1
+
 pub whys_backed : (w : WorkspaceText) (s : SettingsText) (on : PairVisit) (spot : SpotText) (whys : List WhyText) → Explains w s on spot whys → AreBacked whys
-whys_backed w s on spot whys explains k why at =
+whys_backed w s on spot whys explains =
     let is = explains.is_why in
-    let c : Content = content_of Forward is.built in
-    let here = zip_at (IsStepOf on c) is.kept whys k why is.are_steps at in
-    backed_by on c (is_start on.visit.tables _) every (take k (nodes_of is.kept)) here.0.node here.0.reason why.reason (map (λ y. y.spot) (take k whys))
-    (λ m spot listed at. earlier_at (IsStepOf on c) (IsAt on) (λ y. y.spot) is.kept whys k m spot (one_spot on) (λ step y r. r.0) is.are_steps listed at)
-    (is.is_why.explanation.reasons k here.0 here.1) here.2.1
+    steps_backed on (content_of Forward is.built) (is_start on.visit.tables _) is.kept whys is.is_why.explanation is.are_steps
 
 -- the place of a spot is that of its node
 at_spot : (on : PairVisit) (spot : SpotText) (n : ℕ) (inside : Bool) → nat_lt spot.number on.count ≡ inside → (if inside then node_at on.visit.tables (side_base on.count spot.side + spot.number) spot.label else None) ≡ Some n → IsAt on n spot

@@ -22,6 +22,7 @@ use Rattle.cargo_plans.specs.plan_units.Commands.{on_starts}
 use Rattle.plan_starts.specs.step_visits.Visits.{IsVisit, Visit, is_start, node_at, reaches, place_view}
 use Rattle.walk_engine.specs.Laws.{every}
 use Rattle.walk_engine.specs.Walks.{Content, Least}
+use Rattle.plan_whys.specs.AllSteps.{AreAllSteps, ExplainsOn}
 use Rattle.plan_whys.specs.Steps.{SpotText, WhyText}
 use Rattle.plan_whys.specs.NodeWhys.{IsWhyOf, node_of}
 use Rattle.plan_whys.specs.Whys.{Answers, AnswersEach, IsOnBy}
@@ -94,3 +95,7 @@ each_answered w s on I [] (found ∷ founds) starts zip = absurd zip
 each_answered w s on I (at ∷ spots) [] starts zip = absurd zip
 each_answered w s on I (at ∷ spots) (found ∷ founds) starts zip =
     (spot_answered w s on I (spot_text at) (node_of on (spot_text at)) (found_text found) refl starts zip.0, each_answered w s on I spots founds starts zip.1)
+
+-- all steps, from the places where step `on` starts
+pub steps_by_starts : (w : WorkspaceText) (s : SettingsText) (on : PairVisit) (I : ℕ → Bool) (whys : List WhyText) → ((k : ℕ) → I k ≡ is_start on.visit.tables (on_starts w s) k) → AreAllSteps on I whys → ExplainsOn w s on whys
+steps_by_starts w s on I whys starts all = subst (λ (J : ℕ → Bool). AreAllSteps on J whys) (λ i k. starts k i) all

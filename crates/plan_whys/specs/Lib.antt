@@ -3,6 +3,7 @@ pub mod StepViews
 pub mod NodeWhys
 pub mod Whys
 pub mod LastSteps
+pub mod AllSteps
 pub mod Reasons
 pub mod inner
 pub mod links

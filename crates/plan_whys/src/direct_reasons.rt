@@ -159,8 +159,8 @@ fn reasons_at<'p>(
     Ok(shown)
 }
 
-/// Returns each reason why `at` is on in `plan`, but that it's a command feature: one for each edge, or half of one, that leads to it
-/// from what is on. Returns none if it's off. An allocation's failure is the only error.
+/// Returns the direct reasons why `at` is on in `plan`: one for each edge, or half of an edge, that leads to `at` from a spot that is on.
+/// `Selected` is never among them. The list is empty if `at` is off. An allocation's failure is the only error.
 pub fn reasons<'p>(
     alloc: Global,
     plan: &'p Plan<'_>,

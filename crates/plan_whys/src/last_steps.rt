@@ -1,4 +1,4 @@
-//! The last step of why each of several labels is on.
+//! For each of several spots, the last step of its `why`.
 ghost use Rattle.std.specs.Prelude.{◌≡◌, ℕ, IfOk, length, map};
 ghost use Rattle.std.specs.List.{AllZip};
 ghost use Rattle.guppy_packages.specs.declared.direction.DependencyDirection.TheVariants.{Forward};
@@ -78,7 +78,8 @@ fn step_at_spot<'p>(
     }
 }
 
-/// Returns the step of the node of each of `spots`, or `None` for one that has none. `places` are those of `steps`.
+/// Returns, for each of `spots`, the last step of its `why`, or `None` if it isn't reached: the step in `steps` for its node. `places`
+/// must be the places of `steps`.
 fn steps_at_spots<'p>(
     alloc: Global,
     on: &'p PackageVisit,
@@ -98,8 +99,8 @@ fn steps_at_spots<'p>(
     Ok(lasts)
 }
 
-/// Returns the last step of why each of `spots` is reached, or `None` for one that isn't. `steps` is the explanation of the visit, from
-/// `initials`, and `places` are those of `steps`.
+/// Returns, for each of `spots`, the last step of its `why`, or `None` if it isn't reached. `steps` must be the explanation of the visit
+/// that starts at `initials`, and `places` the places of `steps`.
 fn last_steps_of<'p>(
     alloc: Global,
     on: &'p PackageVisit,
@@ -122,7 +123,8 @@ fn last_steps_of<'p>(
     Ok(lasts)
 }
 
-/// Returns the last step of why each of `spots` is reached, or `None` for one that isn't. The visit is the least that has `initials`.
+/// Returns, for each of `spots`, the last step of its `why`, or `None` if it isn't reached. `on` must be the visit that starts at
+/// `initials`.
 fn last_steps_from<'p>(
     alloc: Global,
     on: &'p PackageVisit,
@@ -139,7 +141,7 @@ fn last_steps_from<'p>(
     last_steps_of(alloc, on, built, initials, &steps, &places, spots)
 }
 
-/// Returns the last step of the answer of `why_by_settings` for each of `spots`, by one walk.
+/// Returns, for each of `spots`, the last step of its `why_by_settings`, or `None` if it is off. One walk serves all spots.
 fn last_steps_by_settings<'p, P: Platform>(
     alloc: Global,
     workspace: &Workspace<'_>,
@@ -158,8 +160,8 @@ fn last_steps_by_settings<'p, P: Platform>(
     Ok(lasts)
 }
 
-/// Returns the last step of the answer of `why` for each of `spots`, or `None` for one that is off. The time and the memory are linear in
-/// the tables of step `on` and in `spots`. An allocation's failure is the only error.
+/// Returns, for each of `spots`, the last step of its `why`, or `None` if it is off. The time and the memory are linear in the tables of
+/// step `on` and in `spots`. An allocation's failure is the only error.
 pub fn last_step_each<'p, P: Platform>(
     alloc: Global,
     workspace: &Workspace<'_>,

@@ -1,6 +1,7 @@
 //! Why a feature is on in a plan: the steps from what is selected to the feature.
 #![tactic(auto)]
 
+mod all_steps;
 mod direct_reasons;
 mod explanations;
 mod last_steps;
@@ -12,6 +13,7 @@ mod step_reasons;
 mod steps;
 mod whys;
 
+pub use all_steps::explanation;
 pub use cargo_plans::Side;
 pub use direct_reasons::reasons;
 pub use last_steps::last_step_each;

@@ -5,14 +5,15 @@ use Rattle.feats_answers.specs.AnswerTexts.{AnswerText}
 use Rattle.feats.specs.comparisons.Builds.{build_of}
 use Rattle.feats.specs.comparisons.Sides.{SideText}
 use Rattle.feats.specs.comparisons.differences.Answers.{IsDiffAnswer}
+use Rattle.feats.specs.comparisons.differences.Forms.{form_of}
 use Rattle.feats_files.specs.Showing.{shown_in}
 use Rattle.feats_plans.specs.Planned.{PlannedText}
 use Rattle.feats_plans.specs.Planning.{AfterPlanning, IsPlanningRefusal}
 use Rattle.shown_texts.specs.Plain.{is_plain}
 
--- The answer about the build of the old plan and that of the new side, in the format of the old side.
+-- The answer about the build of the old plan and that of the new side, in the form that the old side asks for.
 abbrev pub IsAnswerFor : PlannedText → SideText → AnswerText → Type 0
-IsAnswerFor old new answer = AfterPlanning new.inputs new.document (λ p. IsDiffAnswer old.inputs.arguments.format (build_of old) (build_of p) answer)
+IsAnswerFor old new answer = AfterPlanning new.inputs new.document (λ p. IsDiffAnswer (form_of old.inputs.arguments.question old.inputs.arguments.format) (build_of old) (build_of p) answer)
 
 -- The message why the new side has no plan.
 abbrev pub IsNewRefusal : SideText → Text → Type 0

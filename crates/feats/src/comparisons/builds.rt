@@ -6,11 +6,12 @@ ghost use Rattle.feats_answers.specs.AnswerViews.{answer_text};
 ghost use Rattle.feats_answers.specs.PlanTexts as places;
 ghost use Rattle.feats.specs.comparisons.Builds as spec;
 ghost use Rattle.feats.specs.comparisons.differences.Answers.{IsDiffAnswer};
+ghost use Rattle.feats.specs.comparisons.differences.Forms as forms;
 ghost use Rattle.feats.specs.comparisons.differences.Views.{build_text};
 ghost use Rattle.feats_files.specs.FileViews.{file_text};
 ghost use Rattle.feats_plans.specs.PlannedView.{planned_text};
 
-use crate::comparisons::differences::{Answer, Build, run_diff};
+use crate::comparisons::differences::{Answer, Build, form_of, run_diff};
 use feats_files::PlatformFile;
 use feats_plans::Planned;
 use std::alloc::{AllocError, Global};
@@ -63,11 +64,11 @@ pub(crate) fn difference(
     new: &Planned<'_, '_, '_, '_, '_>,
 ) -> Result<Answer, AllocError>
     requires { IsPlanOf (planned_text new.now).workspace (planned_text new.now).words (planned_text new.now).plan }
-    ensures { IfOk result (λ answer. IsDiffAnswer (planned_text old.now).inputs.arguments.format (spec.build_of (planned_text old.now)) (spec.build_of (planned_text new.now)) (answer_text answer)) }
+    ensures { IfOk result (λ answer. IsDiffAnswer (forms.form_of (planned_text old.now).inputs.arguments.question (planned_text old.now).inputs.arguments.format) (spec.build_of (planned_text old.now)) (spec.build_of (planned_text new.now)) (answer_text answer)) }
 {
     let old_names = target_names(alloc, &old.files.targets)?;
     let new_names = target_names(alloc, &new.files.targets)?;
     let old_build = build_of(old, &old_names);
     let new_build = build_of(new, &new_names);
-    run_diff(alloc, old.arguments.format, &old_build, &new_build)
+    run_diff(alloc, form_of(old.arguments), &old_build, &new_build)
 }

@@ -12,7 +12,7 @@ use feats_files::{Fault, shown_answer};
 use feats_plans::visit_plan;
 use std::alloc::Global;
 
-/// Returns the answer to `diff` about the builds of `old` and `new`, in the format of `old`. The answer is negative if they differ.
+/// Returns the answer to `diff` about the builds of `old` and `new`, in the form that `old` asks for. The answer is negative if they differ.
 /// Returns the fault of `old`, and else that of `new`: its first file or document at fault, or that it has no plan.
 pub fn compare(alloc: Global, old: Side<'_, '_, '_>, new: Side<'_, '_, '_>) -> Result<Answer, Fault>
     ensures answer { IfOk result (λ answer. IsComparison (side_text old.entry) (side_text new.entry) (answer_text answer)) }

@@ -2,6 +2,7 @@
 
 mod answers;
 mod builds;
+mod forms;
 mod parts;
 mod shown;
 mod whys;
@@ -9,3 +10,5 @@ mod whys;
 pub use answers::run_diff;
 pub use builds::Build;
 pub use feats_answers::Answer;
+pub use forms::Form;
+pub(crate) use forms::form_of;

@@ -5,6 +5,7 @@ ghost use Rattle.feats.specs.comparisons.Builds.{build_of};
 ghost use Rattle.feats.specs.comparisons.Comparisons.{IsAnswerFor, IsNewRefusal};
 ghost use Rattle.feats.specs.comparisons.SideView.{side_text};
 ghost use Rattle.feats.specs.comparisons.differences.Answers.{IsDiffAnswer};
+ghost use Rattle.feats.specs.comparisons.differences.Forms.{form_of};
 ghost use Rattle.feats_plans.specs.PlannedView.{planned_text};
 
 use crate::comparisons::builds::difference;
@@ -23,7 +24,7 @@ struct NewVisitor<'o, 'p, 'n, 's, 'v, 'w> {
 impl PlanVisitor for NewVisitor<'_, '_, '_, '_, '_, '_> {
     type Output = Answer;
 
-    ghost gives = { λ v new answer. IsDiffAnswer (planned_text v.old.now).inputs.arguments.format (build_of (planned_text v.old.now)) (build_of new) (answer_text answer) };
+    ghost gives = { λ v new answer. IsDiffAnswer (form_of (planned_text v.old.now).inputs.arguments.question (planned_text v.old.now).inputs.arguments.format) (build_of (planned_text v.old.now)) (build_of new) (answer_text answer) };
 
     ghost refuses = { λ _ _ _. ⊥ };
 

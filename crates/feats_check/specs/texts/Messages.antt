@@ -2,7 +2,7 @@
 use Rattle.std.specs.Prelude.{◌≡◌, ℕ, List, [], ◌∷◌, ◌++◌, not, filter, flat_map, codes}
 use Rattle.std.specs.Str.{bytes_eq}
 use Rattle.cargo_workspaces.specs.Workspaces.{PackageText, Text}
-use Rattle.feats_files.specs.Platforms.{id_at}
+use Rattle.feats_files.specs.PackageWords.{word_at}
 use Rattle.plan_names.specs.Names.{NamedText, PartText, dependency, feature, whole}
 use Rattle.feats_policies.specs.Problems.{problem_text}
 use Rattle.feats_policies.specs.Rules.{KindText, RuleText, deny, deny_duplicates, require}
@@ -28,9 +28,9 @@ part_end whole = []
 part_end (feature name) = codes "/" ++ escaped name
 part_end (dependency name) = codes "/dep:" ++ escaped name
 
--- The line of a candidate: the id of the package, and the part.
+-- The line of a candidate: the word for the package, and the part.
 abbrev pub candidate_line : List PackageText → NamedText → Text
-candidate_line packages n = codes "\n  " ++ (escaped (id_at packages n.owner) ++ part_end n.part)
+candidate_line packages n = codes "\n  " ++ (escaped (word_at packages n.owner) ++ part_end n.part)
 
 -- The beginning of a message about a word in a line of a file.
 abbrev pub about : Text → ℕ → Text → Text → Text

@@ -1,7 +1,7 @@
 //! Parts of lists.
 ghost use Rattle.std.specs.Prelude.{◌≡◌, drop, take};
 
-/// Returns the first `count` of `items`, or all if there are fewer; and those after them.
+/// Splits `items` after the first `count`, or after all if there are fewer.
 fn parted<T>(items: &[T], count: usize) -> (&[T], &[T])
     ensures first { result.0.now ≡ take count items.now }
     ensures rest { result.1.now ≡ drop count items.now }
@@ -13,7 +13,7 @@ fn parted<T>(items: &[T], count: usize) -> (&[T], &[T])
     }
 }
 
-/// Returns the first `count` of `items` from place `from` on, or fewer at the end; and the place after them.
+/// Returns `count` items from place `from` on, or fewer if `items` ends there, and the place after the last of them.
 pub(crate) fn part_at<T>(items: &[T], from: usize, count: usize) -> (&[T], usize)
     ensures part { result.0.now ≡ take count (drop from items.now) }
     ensures after { drop result.1 items.now ≡ drop count (drop from items.now) }

@@ -11,7 +11,7 @@ ghost use Rattle.feats_check.specs.texts.Messages as spec;
 
 use crate::texts::words::digits_of;
 use cargo_workspaces::Workspace;
-use feats_files::{Fault, id_at, push_escaped};
+use feats_files::{Fault, push_escaped, push_package};
 use feats_policies::checks::{Build, CheckFault};
 use feats_policies::{PolicyFault, Problem};
 use plan_names::{Named, Part};
@@ -120,7 +120,7 @@ fn push_candidate(
     ensures { OnOk result (string_bytes text.new ≡ string_bytes text.old ++ spec.candidate_line (workspace_text workspace.now).packages (named_text candidate.entry)) }
 {
     text.push_str("\n  ")?;
-    push_escaped(alloc, text, id_at(workspace, candidate.package))?;
+    push_package(alloc, text, workspace, candidate.package)?;
     push_part(alloc, text, candidate.part)
 }
 

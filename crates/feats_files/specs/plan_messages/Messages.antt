@@ -10,17 +10,18 @@ use Rattle.cargo_plans.specs.declared.plan_steps.fault.StepFault.TheVariants as 
 use Rattle.cargo_plans.specs.declared.fault.PlanFault.{PlanFault}
 use Rattle.cargo_plans.specs.declared.fault.PlanFault.TheVariants as fault
 use Rattle.feats_files.specs.Messages.{joined}
+use Rattle.feats_files.specs.PackageWords.{word_at}
 use Rattle.feats_files.specs.Platforms.{id_at}
 use Rattle.shown_texts.specs.Shown.{escaped}
 
--- The line with the id of package `p`.
-abbrev pub id_line : List PackageText → ℕ → Text
-id_line packages p = codes "\n  " ++ escaped (id_at packages p)
+-- The line with the word for package `p`.
+abbrev pub package_line : List PackageText → ℕ → Text
+package_line packages p = codes "\n  " ++ escaped (word_at packages p)
 
 -- The message about a word that several packages fit. It has several lines, so what the document and the words say is escaped.
 abbrev pub several_message : List PackageText → Text → List ℕ → Text
 several_message packages word candidates =
-    joined (codes "several packages fit `" ∷ escaped word ∷ codes "`: write NAME@VERSION or one of these ids" ∷ []) ++ flat_map (id_line packages) candidates
+    joined (codes "several packages fit `" ∷ escaped word ∷ codes "`: write one of these" ∷ []) ++ flat_map (package_line packages) candidates
 
 -- The message that package `p` doesn't declare `name`. `lacks` is the text before the name, and says what is missing.
 abbrev pub lacks_message : List PackageText → ℕ → Text → Text → Text

@@ -5,7 +5,8 @@ ghost use Rattle.cargo_plans.specs.Refusals.{is_memory};
 ghost use Rattle.feats_files.specs.Messages.{IsRefused};
 ghost use Rattle.feats_files.specs.plan_messages.Messages as spec;
 
-use crate::{Fault, id_at, push_escaped, refused};
+use crate::platforms::id_at;
+use crate::{Fault, push_escaped, push_package, refused};
 use cargo_plans::{PlanFault, Side, StepFault, WordFault};
 use cargo_workspaces::Workspace;
 use std::alloc::{AllocError, Global};
@@ -17,18 +18,17 @@ pub fn is_memory(fault: &PlanFault<'_>) -> bool
     matches!(fault, PlanFault::Steps(StepFault::Memory))
 }
 
-/// Appends the line with the id of `package`.
-fn push_id(
+/// Appends the line with the word for `package`.
+fn push_line(
     alloc: Global,
     text: &mut String,
     workspace: &Workspace<'_>,
     package: usize,
 ) -> Result<(), AllocError>
-    ensures { OnOk result (string_bytes text.new ≡ string_bytes text.old ++ spec.id_line (workspace_text workspace.now).packages «package») }
+    ensures { OnOk result (string_bytes text.new ≡ string_bytes text.old ++ spec.package_line (workspace_text workspace.now).packages «package») }
 {
     text.push_str("\n  ")?;
-    push_escaped(alloc, text, id_at(workspace, package))?;
-    Ok(())
+    push_package(alloc, text, workspace, package)
 }
 
 /// Returns the message about `word`, which `candidates` fit.
@@ -42,9 +42,9 @@ fn several_message(
 {
     let mut text = String::from_str(alloc, "several packages fit `")?;
     push_escaped(alloc, &mut text, word)?;
-    text.push_str("`: write NAME@VERSION or one of these ids")?;
+    text.push_str("`: write one of these")?;
     for candidate in candidates {
-        push_id(alloc, &mut text, workspace, *candidate)?;
+        push_line(alloc, &mut text, workspace, *candidate)?;
     }
     Ok(text)
 }

@@ -43,7 +43,7 @@ fn with_cut(form: Format, text: Vec<u8>) -> Result<Vec<u8>, AllocError>
     }
 }
 
-/// Returns `text` with that line, if there is no `limit` and the trees are cut.
+/// Returns `text`. If `limit` is `None` and the trees are cut, the line or the object that says so is appended.
 fn with_end(
     form: Format,
     text: Vec<u8>,
@@ -80,9 +80,9 @@ fn tree_text(
     with_end(form, text, limit, trees.is_cut)
 }
 
-/// Returns the text of the trees of `roots` over `links`, or their JSON objects. Node number `k` has the title and the id with this number.
-/// Nothing is deeper than `limit`, or without one than 1,000: if that hides links, a last line says so. An allocation's failure is the only
-/// error.
+/// Returns the trees of `roots` over `links`, as text or as JSON objects. Node `k` has the title and the id with number `k`. The trees have
+/// `limit` levels below the roots. Without `limit` they have 1,000, and a last line or object says if that hides links. Returns an error only
+/// if out of memory.
 pub fn titled_text(
     alloc: Global,
     form: Format,

@@ -17,6 +17,7 @@ use Rattle.feats_answers.specs.AnswerViews.{answer_text}
 use Rattle.feats_answers.specs.Answers.{Answers, IsPositive, Refuses}
 use Rattle.feats_answers.specs.Asked.{AskedText, asked_text}
 use Rattle.feats_answers.specs.PolicyTexts.{IsCheckAnswer, IsCheckRefusal}
+use Rattle.feats_answers.specs.ReportTexts.{IsReportText}
 use Rattle.feats_answers.specs.SpecTexts.{IsSpecText, places}
 use Rattle.feats_answers.specs.WhyNotTexts.{IsWhyNotAnswer}
 use Rattle.feats_answers.specs.declared.answer.Answer.{Answer}
@@ -83,6 +84,15 @@ pub returns-in_ok-answer_to_edge_dot-in-Dot-clause-answer : goal.returns-in_ok-a
 returns-in_ok-answer_to_edge_dot-in-Dot-clause-answer c =
     answers (asked_text c.args.asked) (workspace_text c.args.workspace.now) (words_text holds_on c.args.words.now) (plan_text c.args.plan.now) c.args.asked.arguments.now.question question.Dot
     (Ok c.in_ok-answer_to_edge_dot-in-Dot.field-0) c.in-Dot.is c.in_ok-answer_to_edge_dot-in-Dot.ensures
+
+pub returns-in_ok-report_answer-in-Report-clause-answer : goal.returns-in_ok-report_answer-in-Report-clause-answer
+returns-in_ok-report_answer-in-Report-clause-answer c =
+    let asked = asked_text c.args.asked in
+    let w = workspace_text c.args.workspace.now in
+    let words = words_text holds_on c.args.words.now in
+    let build = plan_text c.args.plan.now in
+    answers asked w words build c.args.asked.arguments.now.question question.Report (Ok c.in_ok-report_answer-in-Report.field-0) c.in-Report.is
+    (subst (λ declared. IsPositive (IsReportText asked.targets w declared words build) (answer_text c.in_ok-report_answer-in-Report.field-0)) c.requires.specs c.in_ok-report_answer-in-Report.ensures)
 
 pub returns-in-Check-clause-answer : goal.returns-in-Check-clause-answer
 returns-in-Check-clause-answer c =

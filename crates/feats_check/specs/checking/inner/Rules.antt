@@ -1,4 +1,4 @@
--- What is printed of some rules of a policy.
+-- The text that the program prints about some rules of a policy.
 use Rattle.std.specs.Prelude.{◌≡◌, List, [], None}
 use Rattle.cargo_workspaces.specs.Workspaces.{Text}
 use Rattle.feats_policies.specs.Rules.{RuleText}

@@ -1,4 +1,4 @@
-use Rattle.feats_words.specs.Commands.{check_shape, diff_shape, dot_shape, duplicates_shape, list_shape, plan_shape, slim_shape, specs_shape, tree_shape, why_not_shape, why_shape}
+use Rattle.feats_words.specs.Commands.{check_shape, diff_shape, dot_shape, duplicates_shape, list_shape, plan_shape, report_shape, slim_shape, specs_shape, tree_shape, why_not_shape, why_shape}
 use Rattle.feats_words.proofs.command.feats_command.Goals as goal
 
 pub returns : goal.returns
@@ -11,6 +11,7 @@ returns c =
     let duplicates = c.with_command-command-6.ensures _ duplicates_shape list c.duplicates_command.ensures in
     let tree = c.with_command-command-7.ensures _ tree_shape duplicates c.tree_command.ensures in
     let dot = c.with_command-command-8.ensures _ dot_shape tree c.dot_command.ensures in
-    let check = c.with_command-command-9.ensures _ check_shape dot c.check_command.ensures in
-    let diff = c.with_command-command-10.ensures _ diff_shape check c.diff_command.ensures in
+    let report = c.with_command-command-9.ensures _ report_shape dot c.report_command.ensures in
+    let check = c.with_command-command-10.ensures _ check_shape report c.check_command.ensures in
+    let diff = c.with_command-command-11.ensures _ diff_shape check c.diff_command.ensures in
     c.with_command.ensures _ slim_shape diff c.slim_command.ensures

@@ -1,0 +1,5 @@
+pub mod Features
+pub mod Numbers
+pub mod Objects
+pub mod Reports
+pub mod inner

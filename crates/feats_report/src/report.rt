@@ -1,0 +1,147 @@
+//! The data of a page.
+ghost use Rattle.std.specs.Prelude.{◌≡◌, IfOk, false};
+ghost use Rattle.std.specs.List.{list_any};
+ghost use Rattle.cargo_plans.specs.Plans.{IsPlanOf};
+ghost use Rattle.cargo_plans.specs.WordsView.{words_text};
+ghost use Rattle.cargo_plans.specs.plan_steps.PlanViews.{plan_text};
+ghost use Rattle.cargo_workspaces.specs.WorkspaceView.{workspace_text};
+ghost use Rattle.page_data.specs.Pages.{is_markup};
+ghost use Rattle.feats_report.specs.Reports as spec;
+ghost use Rattle.feats_report.specs.inner.Members.{parts_text};
+
+use crate::features::built_features;
+use crate::numbers::{numbers_text, pairs_text};
+use crate::objects::{Member, object_text};
+use cargo_plans::{Plan, PlanWords, Platform};
+use cargo_workspaces::Workspace;
+use feats_why::{settings_of, why_objects};
+use page_data::{array_of_lines, page_safe};
+use plan_whys::explanation;
+use plan_whys::links::{root_units, unit_links};
+use std::alloc::{AllocError, Global};
+
+/// The values of a report, each as JSON: `units`, `steps`, `features` and `specs` as lines, `roots` and `links` as arrays.
+#[derive(Clone, Copy)]
+pub(crate) struct Parts<'r> {
+    pub(crate) units: &'r [u8],
+    pub(crate) roots: &'r [u8],
+    pub(crate) links: &'r [u8],
+    pub(crate) steps: &'r [u8],
+    pub(crate) features: &'r [u8],
+    pub(crate) specs: &'r [u8],
+}
+
+/// Returns the text of the numbers of the units at which step `built` of `plan` starts.
+fn roots_text(alloc: Global, plan: &Plan<'_>) -> Result<Vec<u8>, AllocError>
+    ensures { IfOk result (λ text. text.items ≡ spec.roots_text (plan_text plan.now)) }
+{
+    let roots = root_units(alloc, plan)?;
+    numbers_text(alloc, &roots)
+}
+
+/// Returns the text of the links between the units of `plan`.
+fn links_text(alloc: Global, plan: &Plan<'_>) -> Result<Vec<u8>, AllocError>
+    ensures { IfOk result (λ text. spec.IsLinksText (plan_text plan.now) text.items) }
+{
+    let links = unit_links(alloc, plan)?;
+    pairs_text(alloc, &links)
+}
+
+/// Returns the lines of why everything that is on in `plan` is on.
+fn steps_text<P: Platform>(
+    alloc: Global,
+    workspace: &Workspace<'_>,
+    words: &PlanWords<'_, '_, P>,
+    plan: &Plan<'_>,
+) -> Result<Vec<u8>, AllocError>
+    requires plan { IsPlanOf (workspace_text workspace.now) (words_text P.holds words.now) (plan_text plan.now) }
+    ensures { IfOk result (λ text. spec.IsStepsText (workspace_text workspace.now) (words_text P.holds words.now) (plan_text plan.now) text.items) }
+{
+    let whys = explanation(alloc, workspace, words, plan)?;
+    why_objects(alloc, workspace, &settings_of(words), &whys)
+}
+
+/// Returns the data of `parts`.
+fn data_of(alloc: Global, parts: Parts<'_>) -> Result<Vec<u8>, AllocError>
+    ensures text { IfOk result (λ text. text.items ≡ spec.data_text (parts_text parts.entry)) }
+    ensures safe { IfOk result (λ text. list_any is_markup text.items ≡ false) }
+{
+    let units = array_of_lines(alloc, parts.units)?;
+    let steps = array_of_lines(alloc, parts.steps)?;
+    let features = array_of_lines(alloc, parts.features)?;
+    let specs = array_of_lines(alloc, parts.specs)?;
+    let members = [
+        Member {
+            name: "units",
+            value: &units,
+        },
+        Member {
+            name: "roots",
+            value: parts.roots,
+        },
+        Member {
+            name: "links",
+            value: parts.links,
+        },
+        Member {
+            name: "steps",
+            value: &steps,
+        },
+        Member {
+            name: "features",
+            value: &features,
+        },
+        Member {
+            name: "specs",
+            value: &specs,
+        },
+    ];
+    let text = object_text(alloc, &members)?;
+    page_safe(alloc, &text)
+}
+
+/// Returns the data of a page about `plan`, which is that of `words`, as one JSON value and a line feed: the objects of the units in
+/// `units` and of the platform specs in `specs`, a line each; which units the selection starts, and which depend on which; why everything
+/// that is on is on; and the features of the packages that are built. No byte is `<`, `>` or `&`. An allocation's failure is the only
+/// error.
+pub fn report_text<P: Platform>(
+    alloc: Global,
+    workspace: &Workspace<'_>,
+    words: &PlanWords<'_, '_, P>,
+    plan: &Plan<'_>,
+    units: &[u8],
+    specs: &[u8],
+) -> Result<Vec<u8>, AllocError>
+    requires plan { IsPlanOf (workspace_text workspace.now) (words_text P.holds words.now) (plan_text plan.now) }
+    ensures report { IfOk result (λ text. spec.IsReport (workspace_text workspace.now) (words_text P.holds words.now) (plan_text plan.now) units.now specs.now text.items) }
+    ensures safe { IfOk result (λ text. list_any is_markup text.items ≡ false) }
+{
+    let roots = roots_text(alloc, plan)?;
+    let links = links_text(alloc, plan)?;
+    let steps = steps_text(alloc, workspace, words, plan)?;
+    let features = built_features(alloc, workspace, words.selection.split, plan)?;
+    let parts = Parts {
+        units,
+        roots: &roots,
+        links: &links,
+        steps: &steps,
+        features: &features,
+        specs,
+    };
+    data_of(alloc, parts)
+}
+
+/// Returns the data of a page about the differences of two builds, as one JSON value and a line feed: their objects in `differences`, a
+/// line each. No byte is `<`, `>` or `&`. An allocation's failure is the only error.
+pub fn differences_text(alloc: Global, differences: &[u8]) -> Result<Vec<u8>, AllocError>
+    ensures text { IfOk result (λ text. text.items ≡ spec.differences_text differences.now) }
+    ensures safe { IfOk result (λ text. list_any is_markup text.items ≡ false) }
+{
+    let array = array_of_lines(alloc, differences)?;
+    let members = [Member {
+        name: "differences",
+        value: &array,
+    }];
+    let text = object_text(alloc, &members)?;
+    page_safe(alloc, &text)
+}
