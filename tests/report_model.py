@@ -5,6 +5,7 @@ A unit is a package in a place where it is built. `roots` and `links` have numbe
 for each package that has a unit, in the order of the ids.
 """
 import json
+import re
 
 import answer_model
 import link_model
@@ -14,6 +15,7 @@ MEMBERS = ['version', 'units', 'roots', 'links', 'steps', 'features', 'specs']
 VERSION = 1
 # What no byte of the data is, so that it can stand in a page, and how it is written in place of that.
 UNSAFE = {character: f'\\u{ord(character):04x}' for character in '<>&\u2028\u2029'}
+WRONG = re.compile(f'[{"".join(UNSAFE)}\x00-\x09\x0b-\x1f\x7f-\x9f]')
 
 
 def objects_in(text):
@@ -52,7 +54,7 @@ def safe(text):
 
 def fault_of_bytes(text):
     """Returns why a text can't stand in a page, or None."""
-    wrong = [it for it in text if it in UNSAFE or ord(it) < 32 and it != '\n' or 127 <= ord(it) < 160]
+    wrong = WRONG.search(text)
     return f'the text has {wrong[0]!r}' if wrong else None if text.endswith('\n') else 'no line feed ends the text'
 
 

@@ -311,3 +311,8 @@ def differing(page, path, data):
     found = [it.count(f'#{id} tbody tr') for id in ('comes', 'goes', 'changes')]
     wanted = [sum(it in those for it in kinds) for those in (['comes'], ['goes'], ['version', 'features'])]
     yield outcome('the page of differences', (it.view(), found, it.page.messages, it.page.requests), ('differences', wanted, [], [f'file://{path}']))
+    name = it.value['differences'][0]['name']
+    it.page.type(name)
+    it.settle()
+    rows = it.texts('#comes tbody tr, #goes tbody tr, #changes tbody tr')
+    yield outcome('a search in differences', (0 < len(rows) < sum(wanted), [row for row in rows if name not in row]), (True, []))
