@@ -15,7 +15,7 @@ use Rattle.feats_report.specs.Features.{built_features}
 use Rattle.feats_report.specs.Numbers.{number_tokens, pairs_tokens}
 use Rattle.feats_report.specs.Objects.{MemberText, object_text}
 
--- The values of a report: JSON objects, a line each, and two arrays of JSON.
+-- The values of a report, each as JSON.
 pub record PartsText : Type 0 where
   pub units : Text
   pub roots : Text
@@ -30,30 +30,30 @@ member name value = record { name = name; value = value }
 -- The data of these values.
 abbrev pub data_text : PartsText → Text
 data_text p = page_safe (object_text (
-    member (codes "units") (array_of_lines p.units)
+    member (codes "units") p.units
     ∷ member (codes "roots") p.roots
     ∷ member (codes "links") p.links
-    ∷ member (codes "steps") (array_of_lines p.steps)
-    ∷ member (codes "features") (array_of_lines p.features)
-    ∷ member (codes "specs") (array_of_lines p.specs)
+    ∷ member (codes "steps") p.steps
+    ∷ member (codes "features") p.features
+    ∷ member (codes "specs") p.specs
     ∷ []))
 
 -- The numbers of the units that the selection starts.
 abbrev pub roots_text : PlanText → Text
 roots_text plan = print (number_tokens (root_units plan))
 
--- The text is that of the links between units: pairs of their numbers, of which the first depends on the second.
+-- The text is the array of the links between units: pairs of their numbers, of which the first depends on the second.
 pub record IsLinksText (plan : PlanText) (text : Text) : Type 0 where
   pub links : List (ℕ × ℕ)
   pub are_links : AreUnitLinks plan links
   pub is_text : text ≡ print (pairs_tokens links)
 
--- The text is that of the steps of one explanation, which explains exactly what is on: a reason names spots of earlier steps alone.
+-- The text is the array of the steps of one explanation, which explains exactly what is on: a reason names spots of earlier steps alone.
 pub record IsStepsText (w : WorkspaceText) (words : WordsText) (plan : PlanText) (text : Text) : Type 0 where
   pub whys : List WhyText
   pub is_explanation : IsExplanationBy w words plan.on whys
   pub are_backed : AreBacked whys
-  pub is_text : text ≡ why_objects w.packages (settings_of words) whys
+  pub is_text : text ≡ array_of_lines (why_objects w.packages (settings_of words) whys)
 
 -- THE DATA of a page about a plan, with the lines of its units and of the platform specs.
 pub record IsReport (w : WorkspaceText) (words : WordsText) (plan : PlanText) (units specs text : Text) : Type 0 where
@@ -62,12 +62,12 @@ pub record IsReport (w : WorkspaceText) (words : WordsText) (plan : PlanText) (u
   pub steps : Text
   pub is_steps : IsStepsText w words plan steps
   pub is_text : text ≡ data_text (record {
-    units = units;
+    units = array_of_lines units;
     roots = roots_text plan;
     links = links;
     steps = steps;
-    features = built_features words.selection.split w.packages plan;
-    specs = specs;
+    features = array_of_lines (built_features words.selection.split w.packages plan);
+    specs = array_of_lines specs;
   })
 
 -- The data of a page about the differences of two builds, with their lines.

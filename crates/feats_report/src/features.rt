@@ -1,6 +1,5 @@
 //! The features of the packages that are built.
 ghost use Rattle.std.specs.Prelude.{◌≡◌, ◌++◌, IfOk, OnOk, map};
-ghost use Rattle.cargo_plans.specs.built_parts.Built.{is_built, is_part_built};
 ghost use Rattle.cargo_plans.specs.built_parts.BuiltViews.{builds_in, is_built_in};
 ghost use Rattle.cargo_plans.specs.plan_starts.Lists.{joined_from};
 ghost use Rattle.cargo_plans.specs.plan_steps.PlanViews.{plan_text};

@@ -1,8 +1,11 @@
 //! Objects of JSON whose members are texts of JSON.
-ghost use Rattle.std.specs.Prelude.{◌≡◌, ◌++◌, IfOk, OnOk, flat_map, map};
+ghost use Rattle.std.specs.Prelude.{◌≡◌, ◌++◌, IfOk, OnOk, false, flat_map, map};
+ghost use Rattle.std.specs.List.{list_any};
+ghost use Rattle.page_data.specs.Pages.{is_markup, page_safe};
 ghost use Rattle.feats_report.specs.Objects as spec;
 ghost use Rattle.feats_report.specs.inner.Members.{member_text};
 
+use page_data::page_safe;
 use std::alloc::{AllocError, Global};
 
 /// A member of an object: its name, which has no character that JSON escapes, and the JSON text of its value.
@@ -40,7 +43,7 @@ fn push_members(text: &mut Vec<u8>, members: &[Member<'_>]) -> Result<(), AllocE
 }
 
 /// Returns the object of the version and `members`, and a line feed.
-pub(crate) fn object_text(alloc: Global, members: &[Member<'_>]) -> Result<Vec<u8>, AllocError>
+fn object_text(alloc: Global, members: &[Member<'_>]) -> Result<Vec<u8>, AllocError>
     ensures { IfOk result (λ text. text.items ≡ spec.object_text (map member_text members.now)) }
 {
     let mut text = Vec::new(alloc);
@@ -48,4 +51,13 @@ pub(crate) fn object_text(alloc: Global, members: &[Member<'_>]) -> Result<Vec<u
     push_members(&mut text, members)?;
     push_str(&mut text, "}\n")?;
     Ok(text)
+}
+
+/// Returns the object of the version and `members`, and a line feed. No byte of it is `<`, `>` or `&`.
+pub(crate) fn page_object(alloc: Global, members: &[Member<'_>]) -> Result<Vec<u8>, AllocError>
+    ensures text { IfOk result (λ text. text.items ≡ page_safe (spec.object_text (map member_text members.now))) }
+    ensures safe { IfOk result (λ text. list_any is_markup text.items ≡ false) }
+{
+    let text = object_text(alloc, members)?;
+    page_safe(alloc, &text)
 }

@@ -5,22 +5,24 @@ ghost use Rattle.cargo_plans.specs.Plans.{IsPlanOf};
 ghost use Rattle.cargo_plans.specs.WordsView.{words_text};
 ghost use Rattle.cargo_plans.specs.plan_steps.PlanViews.{plan_text};
 ghost use Rattle.cargo_workspaces.specs.WorkspaceView.{workspace_text};
+ghost use Rattle.page_data.specs.Arrays.{array_of_lines};
 ghost use Rattle.page_data.specs.Pages.{is_markup};
+ghost use Rattle.feats_report.specs.Features.{built_features};
 ghost use Rattle.feats_report.specs.Reports as spec;
 ghost use Rattle.feats_report.specs.inner.Members.{parts_text};
 
 use crate::features::built_features;
 use crate::numbers::{numbers_text, pairs_text};
-use crate::objects::{Member, object_text};
+use crate::objects::{Member, page_object};
 use cargo_plans::{Plan, PlanWords, Platform};
 use cargo_workspaces::Workspace;
 use feats_why::{settings_of, why_objects};
-use page_data::{array_of_lines, page_safe};
+use page_data::array_of_lines;
 use plan_whys::explanation;
 use plan_whys::links::{root_units, unit_links};
 use std::alloc::{AllocError, Global};
 
-/// The values of a report, each as JSON: `units`, `steps`, `features` and `specs` as lines, `roots` and `links` as arrays.
+/// The values of a report, each as JSON.
 #[derive(Clone, Copy)]
 pub(crate) struct Parts<'r> {
     pub(crate) units: &'r [u8],
@@ -47,7 +49,7 @@ fn links_text(alloc: Global, plan: &Plan<'_>) -> Result<Vec<u8>, AllocError>
     pairs_text(alloc, &links)
 }
 
-/// Returns the lines of why everything that is on in `plan` is on.
+/// Returns the array of the steps why everything that is on in `plan` is on.
 fn steps_text<P: Platform>(
     alloc: Global,
     workspace: &Workspace<'_>,
@@ -58,7 +60,21 @@ fn steps_text<P: Platform>(
     ensures { IfOk result (λ text. spec.IsStepsText (workspace_text workspace.now) (words_text P.holds words.now) (plan_text plan.now) text.items) }
 {
     let whys = explanation(alloc, workspace, words, plan)?;
-    why_objects(alloc, workspace, &settings_of(words), &whys)
+    let lines = why_objects(alloc, workspace, &settings_of(words), &whys)?;
+    array_of_lines(alloc, &lines)
+}
+
+/// Returns the array of the features of the packages that `plan` builds. `split` is whether the resolver tells the sides apart.
+fn features_text(
+    alloc: Global,
+    workspace: &Workspace<'_>,
+    split: bool,
+    plan: &Plan<'_>,
+) -> Result<Vec<u8>, AllocError>
+    ensures { IfOk result (λ text. text.items ≡ array_of_lines (built_features split (workspace_text workspace.now).packages (plan_text plan.now))) }
+{
+    let lines = built_features(alloc, workspace, split, plan)?;
+    array_of_lines(alloc, &lines)
 }
 
 /// Returns the data of `parts`.
@@ -66,14 +82,10 @@ fn data_of(alloc: Global, parts: Parts<'_>) -> Result<Vec<u8>, AllocError>
     ensures text { IfOk result (λ text. text.items ≡ spec.data_text (parts_text parts.entry)) }
     ensures safe { IfOk result (λ text. list_any is_markup text.items ≡ false) }
 {
-    let units = array_of_lines(alloc, parts.units)?;
-    let steps = array_of_lines(alloc, parts.steps)?;
-    let features = array_of_lines(alloc, parts.features)?;
-    let specs = array_of_lines(alloc, parts.specs)?;
     let members = [
         Member {
             name: "units",
-            value: &units,
+            value: parts.units,
         },
         Member {
             name: "roots",
@@ -85,19 +97,18 @@ fn data_of(alloc: Global, parts: Parts<'_>) -> Result<Vec<u8>, AllocError>
         },
         Member {
             name: "steps",
-            value: &steps,
+            value: parts.steps,
         },
         Member {
             name: "features",
-            value: &features,
+            value: parts.features,
         },
         Member {
             name: "specs",
-            value: &specs,
+            value: parts.specs,
         },
     ];
-    let text = object_text(alloc, &members)?;
-    page_safe(alloc, &text)
+    page_object(alloc, &members)
 }
 
 /// Returns the data of a page about `plan`, which is that of `words`, as one JSON value and a line feed: the objects of the units in
@@ -116,17 +127,19 @@ pub fn report_text<P: Platform>(
     ensures report { IfOk result (λ text. spec.IsReport (workspace_text workspace.now) (words_text P.holds words.now) (plan_text plan.now) units.now specs.now text.items) }
     ensures safe { IfOk result (λ text. list_any is_markup text.items ≡ false) }
 {
+    let units = array_of_lines(alloc, units)?;
     let roots = roots_text(alloc, plan)?;
     let links = links_text(alloc, plan)?;
     let steps = steps_text(alloc, workspace, words, plan)?;
-    let features = built_features(alloc, workspace, words.selection.split, plan)?;
+    let features = features_text(alloc, workspace, words.selection.split, plan)?;
+    let specs = array_of_lines(alloc, specs)?;
     let parts = Parts {
-        units,
+        units: &units,
         roots: &roots,
         links: &links,
         steps: &steps,
         features: &features,
-        specs,
+        specs: &specs,
     };
     data_of(alloc, parts)
 }
@@ -142,6 +155,5 @@ pub fn differences_text(alloc: Global, differences: &[u8]) -> Result<Vec<u8>, Al
         name: "differences",
         value: &array,
     }];
-    let text = object_text(alloc, &members)?;
-    page_safe(alloc, &text)
+    page_object(alloc, &members)
 }

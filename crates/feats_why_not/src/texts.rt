@@ -112,12 +112,8 @@ fn is_single(parts: &[OffPart<'_>]) -> bool
     }
 }
 
-/// Returns a text about each of `parts`, which aren't built by `words`, whose plan is `plan`. For each widening of the selection it says
-/// whether the part is built there, and why; that it is on there and isn't built; that it is off; or why there is no plan. If a part is
-/// off with all of them together, the last line of its text says that no choice of members, features of members, tests and platforms
-/// turns it on. `every` is the platform on which each platform spec of `workspace` holds. A widening that adds to the words needs one
-/// plan. If there is one part, a widening in which it is built ends with the words to type; each of the words that are tried needs a plan.
-pub fn why_not_texts<'n, 's>(
+/// Returns a text about each of `parts`, as `why_not_texts` does. It makes the plans of the widenings also if there are no parts.
+fn texts_about<'n, 's>(
     alloc: Global,
     form: Format,
     workspace: &Workspace<'_>,
@@ -142,4 +138,28 @@ pub fn why_not_texts<'n, 's>(
         texts = with_sections(alloc, form, base, *widening, parts, &texts)?;
     }
     Ok(texts)
+}
+
+/// Returns a text about each of `parts`, which aren't built by `words`, whose plan is `plan`. For each widening of the selection it says
+/// whether the part is built there, and why; that it is on there and isn't built; that it is off; or why there is no plan. If a part is
+/// off with all of them together, the last line of its text says that no choice of members, features of members, tests and platforms
+/// turns it on. `every` is the platform on which each platform spec of `workspace` holds. If there are no parts, no plan is made; else a
+/// widening that adds to the words needs one plan. If there is one part, a widening in which it is built ends with the words to type; each
+/// of the words that are tried needs a plan.
+pub fn why_not_texts<'n, 's>(
+    alloc: Global,
+    form: Format,
+    workspace: &Workspace<'_>,
+    words: &PlanWords<'_, 'n, HeldSpecs<'s>>,
+    plan: &Plan<'_>,
+    every: &'n HeldSpecs<'s>,
+    parts: &[OffPart<'_>],
+) -> Result<Vec<Vec<u8>>, AllocError>
+    requires { IsPlanOf (workspace_text workspace.now) (words_text holds_on words.now) (plan_text plan.now) }
+    ensures { IfOk result (λ texts. AllZip (spec.IsWhyNotText form (words_to_type.is_single (map part_text parts.now)) (workspace_text workspace.now) (words_text holds_on words.now) (holds_on every.now)) (map part_text parts.now) (texts_of texts.items)) }
+{
+    match parts {
+        [] => Ok(Vec::new(alloc)),
+        [_, ..] => texts_about(alloc, form, workspace, words, plan, every, parts),
+    }
 }

@@ -1,5 +1,6 @@
 //! Arrays of JSON, an element a line.
-ghost use Rattle.std.specs.Prelude.{◌≡◌, ◌++◌, ◌∷◌, [], IfOk, OnOk};
+ghost use Rattle.std.specs.Prelude.{◌≡◌, ◌++◌, ◌∷◌, ℕ, List, IfOk, OnOk, false, flat_map};
+ghost use Rattle.std.specs.List.{list_any};
 ghost use Rattle.page_data.specs.Arrays as spec;
 
 use std::alloc::{AllocError, Global};
@@ -40,9 +41,8 @@ fn push_lines(text: &mut Vec<u8>, lines: &[u8]) -> Result<(), AllocError>
     Ok(())
 }
 
-/// Returns the array of the elements in `lines`, which are one in each line: `[` and a line feed, the lines with a comma after each but
-/// the last, and `]`. Each line ends with a line feed. An allocation's failure is the only error.
-pub fn array_of_lines(alloc: Global, lines: &[u8]) -> Result<Vec<u8>, AllocError>
+/// Returns `[` and a line feed, `lines` with a comma after each but the last, and `]`.
+fn bracketed(alloc: Global, lines: &[u8]) -> Result<Vec<u8>, AllocError>
     ensures { IfOk result (λ text. text.items ≡ spec.array_of_lines lines.now) }
 {
     let mut text = Vec::with_capacity(alloc, lines.len())?;
@@ -50,4 +50,13 @@ pub fn array_of_lines(alloc: Global, lines: &[u8]) -> Result<Vec<u8>, AllocError
     push_lines(&mut text, lines)?;
     text.push(b']')?;
     Ok(text)
+}
+
+/// Returns the array of the elements in `lines`, which are one in each line: `[` and a line feed, the lines with a comma after each but
+/// the last, and `]`. Each line ends with a line feed. An allocation's failure is the only error.
+pub fn array_of_lines(alloc: Global, lines: &[u8]) -> Result<Vec<u8>, AllocError>
+    ensures text { IfOk result (λ text. text.items ≡ spec.array_of_lines lines.now) }
+    ensures elements { IfOk result (λ text. (elements : List (List ℕ)) → list_any spec.has_feed elements ≡ false → lines.now ≡ flat_map spec.line_of elements → text.items ≡ spec.array_of elements) }
+{
+    bracketed(alloc, lines)
 }

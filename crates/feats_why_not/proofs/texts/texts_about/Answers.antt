@@ -19,7 +19,7 @@ use Rattle.plan_names.specs.declared.wider.widenings.widening.Widening.{Widening
 use Rattle.feats_why_not.specs.inner.Lists.{joined}
 use Rattle.feats_why_not.proofs.Each.{IsSo, all_done, begun, each_step}
 use Rattle.feats_why_not.proofs.Gathered.{AllAreSaid}
-use Rattle.feats_why_not.proofs.texts.why_not_texts.Goals as goal
+use Rattle.feats_why_not.proofs.texts.texts_about.Goals as goal
 
 text_done : (form : Format) (alone : Bool) (w : WorkspaceText) (words : WordsText) (every : Text → Bool) (plan : PlanText) (is_plan : IsPlanOf w words plan) (parts : List PartText) (texts : List Text)
     → AllZip (λ part text. AllAreSaid (λ v t. IsSection form alone w words (widened every v words) v part t) (λ v s. s) (head_text form w words plan part) text) parts texts → AllZip (IsWhyNotText form alone w words every) parts texts

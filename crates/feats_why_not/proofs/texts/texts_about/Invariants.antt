@@ -9,7 +9,7 @@ use Rattle.feats_why_not.specs.PartView.{part_text}
 use Rattle.feats_why_not.specs.Texts.{IsSection, head_text}
 use Rattle.feats_why_not.specs.inner.Lists.{texts_of}
 use Rattle.feats_why_not.proofs.Each.{IsSo}
-use Rattle.feats_why_not.proofs.texts.why_not_texts.Given as goal
+use Rattle.feats_why_not.proofs.texts.texts_about.Given as goal
 
 abbrev pub invariant-loop-widening : goal.invariant-loop-widening
 invariant-loop-widening l =
