@@ -30,6 +30,11 @@ def end_of(spot):
     return name + (' (host)' if spot['side'] == 'host' else '')
 
 
+def spot_of(step):
+    """The part of a step, as `from` and `gate` of another step have it."""
+    return {name: step[name] for name in ('package', 'feature', 'dependency', 'side')}
+
+
 def feature_of(spot):
     """The name of a feature, an optional dependency or the package itself in the table of a package's features."""
     if spot['dependency'] is not None:
@@ -224,22 +229,32 @@ def changed(data):
     def own(value, test):
         return next(ix for ix, it in enumerate(value['steps']) if test(it))
 
-    def without_gate(value):
-        gate = value['steps'][own(value, lambda it: it['gate'] is not None)]['gate']
-        ix = own(value, lambda it: part_of(it) == part_of(gate))
-        value['steps'].append(value['steps'].pop(ix))
-
     yield 'steps in the wrong order', text(lambda it: it['steps'].reverse())
     yield 'a step twice', text(lambda it: it['steps'].append(it['steps'][0]))
     yield 'no step for the first part', text(lambda it: it['steps'].pop(0))
     yield 'no step for the last part', text(lambda it: it['steps'].pop())
     yield 'a reason that begins nowhere', text(lambda it: it['steps'][own(it, lambda step: step['reason'] == 'turns-on')].update({'from': None}))
-    if any(it['gate'] is not None for it in json.loads(data)['steps']):
-        yield 'a gate that is later', text(without_gate)
+    yield 'a gate that is later', text(lambda it: it['steps'][0].update({'gate': spot_of(it['steps'][-1])}))
     yield 'a feature without a reason', text(lambda it: it['units'][0]['features'].append('more'))
     yield 'a feature that is listed as on', text(lambda it: next(line for line in it['features'] if not line['target'] and not line['host']).update({'target': True}))
     yield 'a feature that is listed as off', text(lambda it: next(line for line in it['features'] if line['target']).update({'target': False}))
     yield 'a link to no unit', text(lambda it: it['links'].append([0, len(it['units'])]))
+
+
+def waiting(page, path, data):
+    """Yields the outcomes of a reason with a gate, which is at an earlier step: the check, the walk back, the gate's own view, and the drawing."""
+    value = json.loads(data)
+    step = next(it for it in reversed(value['steps']) if it['reason'] == 'turns-on' and it['feature'] is not None)
+    gate = next(it for it in value['steps'] if it['dependency'] is not None and part_of(it) != part_of(step['from']))
+    step['gate'] = spot_of(gate)
+    it = Shown(page, path, json.dumps(value))
+    it.open(address_of(step))
+    yield outcome('the check with a gate', (it.check(), it.page.messages), ('passed', []))
+    yield outcome('the walk back with a gate', end_of(gate) in it.texts('#walk li')[0].partition(', as ')[2], True)
+    it.go(address_of(gate))
+    yield outcome('what waited for a gate', [text.endswith(end_of(step)) for text in it.texts('#waited .row')], [True])
+    it.go(f'{address_of(gate)}&view=drawing')
+    yield outcome('the drawing of a gate', (it.view(), it.count('#drawing path.gate')), ('drawing', 1))
 
 
 def refused(page, path, data):
