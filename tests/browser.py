@@ -59,7 +59,7 @@ class Browser:
         self.room.cleanup()
 
     def message(self, until):
-        """The next message, which comes before a time."""
+        """The next message. Raises Gone if none comes before the time `until`."""
         while b'\0' not in self.rest:
             ready, _, _ = select.select([self.read], [], [], max(0, until - time.monotonic()))
             more = os.read(self.read, 1 << 20) if ready else b''
@@ -70,7 +70,7 @@ class Browser:
         return json.loads(text)
 
     def call(self, method, session=None, **parameters):
-        """Calls a method, and returns its result. What happens meanwhile is appended to `events`."""
+        """Calls a method, and returns its result. Events that come before it are appended to `events`."""
         self.number += 1
         asked = {'id': self.number, 'method': method, 'params': parameters, **({'sessionId': session} if session else {})}
         text = json.dumps(asked).encode() + b'\0'

@@ -1,4 +1,4 @@
-"""Judges the steps of `feats report` over the tables of plan_model.py. It doesn't trust the maker.
+"""Judges the steps of `feats report` over the tables of plan_model.py, and trusts nothing that `feats` says of them.
 
 Steps are an explanation of what is on if each is about a node that is on, about another one than the others, and turned on by its `from` where
 only its `gate` is on, and if both are at earlier steps. They hold exactly what is on if each node that is on has a step, but for the command
@@ -6,6 +6,7 @@ features: a step whose `from` is null begins at one. The word for a reason and t
 """
 from judge_why import fault_of_reason, node_of, starts_of
 from plan_model import HOST
+
 
 def words_of(node, start):
     """The words that a reason may have."""

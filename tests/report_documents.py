@@ -13,7 +13,7 @@ SAMPLE = TOP / 'examples/cli.metadata.json'
 WORDS = ['--workspace']
 # The number of copies of the sample's packages that have 969 packages.
 COPIES = 17
-# Names of packages and features: what a page, a shell of a script, an address or a terminal may read as its own. None is `default`.
+# Names of packages and features that a page, a script, a shell, an address or a terminal may read as its own. None is `default`.
 HOSTILE = ('</script><script>window.bad = 1</script>', '</ScRiPt ><b>', '<img src=x onerror="window.bad = 1">', '<svg onload=window.bad=1>', '<!-- <script>', ']]>',
            '"quotes\' and `ticks`', 'a&lt;b&amp;c', '\\u003cb\\u003e', '${window.bad = 1}', 'javascript:window.bad=1', 'two\u2028lines\u2029more', 'new\nline\r\ttab',
            '\x1b[31mred\x7f\x85', '\u202egnp.exe', 'שלום\u200f\u200e', '\u2066x\u2069', '__proto__', 'constructor', 'toString', '%3Cb%3E%00%', 'a b+c', 'n@1#z?view=drawing&x',

@@ -14,8 +14,6 @@ from urllib.parse import quote
 from report_documents import HOSTILE
 from report_script import TEMPLATE, outcome, page_of
 
-SIDES = ('target', 'host')
-
 
 def shown(text):
     """A text as the page shows it."""
@@ -30,6 +28,13 @@ def end_of(spot):
     """The end of a part's label: the feature or the dependency, and the side of the host."""
     name = '' if spot['feature'] is spot['dependency'] is None else f'/{shown(spot["feature"])}' if spot['feature'] is not None else f'/dep:{shown(spot["dependency"])}'
     return name + (' (host)' if spot['side'] == 'host' else '')
+
+
+def feature_of(spot):
+    """The name of a feature, an optional dependency or the package itself in the table of a package's features."""
+    if spot['dependency'] is not None:
+        return f'dep:{shown(spot["dependency"])}'
+    return 'the package itself' if spot['feature'] is None else shown(spot['feature'])
 
 
 def address_of(spot):
@@ -140,12 +145,11 @@ def package_shown(it, name, id):
     lines = [line for line in it.value['features'] if line['id'] == id]
     unit = packages_of(it)[id]
     yield outcome(f'{name}: the title of {unit["name"]!a}', (it.view(), it.texts('#view h1')), ('package', [f'{shown(unit["name"])} {unit["version"]}']))
-    wanted = sorted((shown(line['feature'] if line['dependency'] is None else f'dep:{line["dependency"]}'), any(line[side] for side in SIDES)) for line in lines)
-    rows = it.get('[...document.querySelectorAll("#features tbody tr")].map((it) => [it.cells[0].textContent, it.className === "on"])')
-    found = sorted(tuple(row) for row in rows if row[0] != 'the package itself' and not row[0].startswith('show '))
-    on_unbuilt = {end_of(step)[1:] for step in it.value['steps'] if step['package'] == id}
-    fault = [row for row in set(map(tuple, found)) ^ set(wanted) if row[0] not in on_unbuilt and row[0] + ' (host)' not in on_unbuilt]
-    yield outcome(f'{name}: the features of {unit["name"]!a}', (fault if len(lines) < 150 else [], len(rows) > 0), ([], True))
+    on = [step for step in it.value['steps'] if step['package'] == id]
+    wanted = {**{feature_of(line): False for line in lines}, **{feature_of(step): True for step in on}}
+    rows = it.get('[...document.querySelectorAll("#features tbody tr:not(.more-row)")]'
+                  '.map((it) => [it.cells[0].textContent, [...it.cells].slice(1, -1).some((cell) => cell.textContent !== "off")])')
+    yield outcome(f'{name}: the features of {unit["name"]!a}', sorted(map(tuple, rows)), sorted(wanted.items()))
 
 
 def walked(it, name, ix):
@@ -253,7 +257,7 @@ def refused(page, path, data):
 
 
 def unbroken(it):
-    """Yields the outcomes of names that try to break out: each is a text, and no element or script comes from one."""
+    """Yields the outcomes of names that try to break out: the page shows each as text, and makes no element or script of it."""
     elements = '[document.scripts.length, document.querySelectorAll("img, iframe, object, embed, link, base, form").length, typeof window.bad]'
     names = {unit['id']: unit['name'] for unit in it.value['units']}
     for id, name in names.items():

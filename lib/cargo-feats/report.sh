@@ -1,6 +1,6 @@
 # The pages of `report` and of `diff --report`. Part of cargo-feats.
 
-# Whether the words name a file for the page, and its name. Whether they have --report, and their format.
+# Whether the words have -o, and its file; whether they have --report; and the format that they name.
 has_output='' output='' has_report='' format=text
 
 # Returns whether the answer of feats is the data of a page.
@@ -8,12 +8,12 @@ makes_page() {
   [ "$command" = report ] || { [ "$command" = diff ] && [ -n "$has_report" ]; }
 }
 
-# Ends with a fault of the file.
+# Ends because the file can't be written. The argument is the reason, if it is known.
 cannot_write() {
   fail "cannot write \`$output\`${1:+: $1}"
 }
 
-# Ends if the words name a file that can't be written, or if there is no page for it.
+# Ends if -o names a file that can't be written, or if the command writes no page.
 check_output() {
   local folder=.
   [ -n "$has_output" ] || return 0
@@ -25,8 +25,8 @@ check_output() {
   [ -d "$folder" ] || cannot_write "there is no folder \`$folder\`"
 }
 
-# Sets `output` to the file of a page in the target directory, whose folder is made. A document has the target directory after its packages and
-# before the workspace's metadata. These may have the same keys, but then other keys follow.
+# Sets `output` to the page's file in the target directory, and makes its folder. In a document the target directory is after the packages and
+# before the workspace's metadata. Packages and metadata may have this key too, but other keys follow it there.
 find_output() {
   local line name=report string='"([^"\\]|\\.)*"'
   if [ "$command" = diff ]; then name=diff; fi
@@ -42,12 +42,12 @@ find_output() {
   mkdir -p -- "${output%/*}" 2>/dev/null || cannot_write "its folder can't be made"
 }
 
-# Prints the page: the template, with the data in the place of a line.
+# Prints the page: the template, with the data in place of the line `DATA`.
 print_page() {
   sed '/^DATA$/,$d' "$parts/report.html" && cat -- "$room/answer" && sed '1,/^DATA$/d' "$parts/report.html"
 }
 
-# Writes the output of a command to the file: to a new one beside it, which takes its place. What is no file, such as a pipe, is written itself.
+# Writes the output of a command to the file `output`, by a new file beside it that then replaces it. A pipe or a device is written to directly.
 write_output() {
   local file=$output
   if [ -L "$file" ]; then file=$(readlink -f -- "$file") || cannot_write; fi
@@ -56,7 +56,7 @@ write_output() {
     return
   fi
   unfinished=$(mktemp -- "$file.XXXXXX" 2>/dev/null) || cannot_write
-  # (mktemp makes a file of the user alone)
+  # (mktemp makes a file that only the user can read)
   chmod =rw -- "$unfinished" && "$@" 2>/dev/null >"$unfinished" && mv -fT -- "$unfinished" "$file" 2>/dev/null || cannot_write
   unfinished=''
 }

@@ -17,7 +17,7 @@ label_of_part whole = base
 label_of_part (feature name) = named name
 label_of_part (dependency name) = optional name
 
--- Whether a part is built on a side. `built side p label` is whether a part of package `p` is built.
+-- Whether a part is built on at least one side. `built side p label` is whether part `label` of package `p` is built on `side`.
 abbrev pub is_anywhere : (Side → ℕ → LabelName → Bool) → NamedText → Bool
 is_anywhere built part = built Target part.owner (label_of_part part.part) || built Host part.owner (label_of_part part.part)
 

@@ -18,7 +18,7 @@ units_of targets w plan = text_of_units format.Json targets w.packages plan.unit
 abbrev pub AreSpecsOf : List FileText → List DeclaredText → WordsText → Text → Type 0
 AreSpecsOf targets declared words text = IsSpecText format.Json declared (places targets words.host words.targets) text
 
--- The data of a page about the plan: it has these objects.
+-- The data of a page about the plan, with the objects that `plan` and `specs` print.
 pub record IsReportText (targets : List FileText) (w : WorkspaceText) (declared : List DeclaredText) (words : WordsText) (plan : PlanText) (text : Text) : Type 0 where
   pub specs : Text
   pub are_specs : AreSpecsOf targets declared words specs

@@ -22,7 +22,7 @@ use Rattle.feats_answers.specs.Parts.{ArePartsOf, is_anywhere, label_of_part}
 abbrev pub off_part : NamedText → PartText
 off_part part = record { number = part.owner; label = label_of_part part.part }
 
--- Those of the parts that are built on no side. `built side p label` is whether a part of package `p` is built.
+-- Those of the parts that are built on no side. `built side p label` is whether part `label` of package `p` is built on `side`.
 abbrev pub parts_off : (Side → ℕ → LabelName → Bool) → List NamedText → List PartText
 parts_off built parts = map off_part (filter (λ part. not (is_anywhere built part)) parts)
 

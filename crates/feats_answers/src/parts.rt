@@ -36,7 +36,7 @@ pub(crate) fn label_of(part: Part<'_>) -> FeatureLabel<'_>
     }
 }
 
-/// Returns whether `named` is built on a side.
+/// Returns whether `named` is built on the target side or on the host side, by `built`.
 pub(crate) fn is_anywhere(built: &BuiltParts<'_>, named: Named<'_>) -> bool
     ensures { result ≡ spec.is_anywhere (is_built_in built.now) (named_text named.entry) }
 {

@@ -31,7 +31,7 @@ fn units_of(
     text_of_units(alloc, Format::Json, files, workspace, plan.units())
 }
 
-/// Returns the objects of `specs`, on the host and on the target platforms of `files`.
+/// Returns the objects of `specs`, each with the platforms on which it holds: of the host and the target platforms of `files`.
 fn specs_of<'n>(
     alloc: Global,
     files: &[PlatformFile<'n>],
@@ -43,8 +43,8 @@ fn specs_of<'n>(
     spec_text(alloc, Format::Json, specs, files, words.host, words.targets)
 }
 
-/// Returns the data of a page about `plan`, which is that of `words`. `specs` are the platform specs of the workspace, and `files` are those
-/// of the target platforms. The only error is out of memory.
+/// Returns the data of a page about `plan`, the plan of `words`. `specs` are the platform specs of the workspace, and `files` the files of
+/// the target platforms. The only error is out of memory.
 pub(crate) fn report_of<'n>(
     alloc: Global,
     files: &[PlatformFile<'n>],

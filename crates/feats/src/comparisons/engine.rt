@@ -31,8 +31,8 @@ fn write_comparison<W: ByteOutput>(
 }
 
 /// Reads the document of `old` from `old_reader` and that of `new` from `new_reader`, each to its end, and writes the answer to `diff`
-/// about their builds to `writer`, in the form that `old` asks for. Control characters in it are escaped, but for the line feeds at the ends of
-/// its lines. Returns whether the builds differ, and whether the answer was written: the first write that fails ends the run.
+/// about their builds to `writer`, in the form that `old` asks for. Control characters in it are escaped, but for the line feeds at the
+/// ends of its lines. Returns whether the builds differ, and whether the answer was written: the first write that fails ends the run.
 ///
 /// Writes nothing before the whole answer is known. Returns the first fault: a failed read of `old` and then of `new`, and then the
 /// faults of `compare`.

@@ -1,4 +1,4 @@
-//! The format of an answer to `diff`.
+//! The form of an answer to `diff`, which both sides must ask for.
 ghost use Rattle.std.specs.Prelude.{◌≡◌, OnOk, OnErr, IfErr};
 ghost use Rattle.feats.specs.comparisons.Formats.{format_message};
 ghost use Rattle.feats.specs.comparisons.differences.Forms as spec;
@@ -10,7 +10,8 @@ use feats_files::{Fault, refused};
 use feats_words::CommandArguments;
 use std::alloc::Global;
 
-/// Returns `Ok` if the arguments of both sides ask for one form, that of the answer. Their difference and `Memory` are the only errors.
+/// Returns `Ok` if `old` and `new` ask for the same form of the answer. If they don't, returns the message about it; `Memory` is the only
+/// other error.
 pub fn one_format(
     alloc: Global,
     old: &CommandArguments<'_>,

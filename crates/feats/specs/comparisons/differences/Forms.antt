@@ -5,7 +5,7 @@ use Rattle.feats_words.specs.declared.command_arguments.Format.TheVariants as fo
 use Rattle.feats.specs.declared.comparisons.differences.forms.Form.{Form}
 use Rattle.feats.specs.declared.comparisons.differences.forms.Form.TheVariants.{Lines, Objects, Page}
 
--- The form of the answer: the data of a page if the question is `report`, else the one of the format.
+-- The form of the answer: the data of a page if the question is `report`, and otherwise the form of the format.
 abbrev pub form_of : QuestionText → Format → Form
 form_of report named = Page
 form_of _ format.Text = Lines

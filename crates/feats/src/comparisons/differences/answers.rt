@@ -45,7 +45,7 @@ fn page_text(alloc: Global, shown: &[Difference<'_, '_, '_>]) -> Result<Vec<u8>,
     differences_text(alloc, &objects)
 }
 
-/// Returns the text of `shown`, which are packages of `old` and `new`.
+/// Returns the text of `shown`, which are differences between packages of `old` and of `new`, in `form`.
 fn text_in(
     alloc: Global,
     form: Form,

@@ -5,9 +5,10 @@ ghost use Rattle.feats_words.specs.Views.{question_text};
 
 use feats_words::{CommandArguments, Format, Question};
 
-/// The forms of the answer to `diff`.
+/// The form of the answer to `diff`.
 #[derive(Clone, Copy, PartialEq, Eq, Debug)]
 pub enum Form {
+    /// Lines of text.
     Lines,
     /// JSON, an object a line.
     Objects,
