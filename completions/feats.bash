@@ -3,14 +3,14 @@
 # Prints the words of a list. The arguments are the program, feats or cargo, and the name of a command or `commands`.
 _feats_list() {
   case "$1 $2" in
-    'feats commands' | 'cargo commands') echo 'plan why why-not specs list duplicates tree dot check diff slim help' ;;
-    'feats plan' | 'feats why-not' | 'feats specs' | 'feats list') echo '--metadata --host --target --resolver --manifest -p --package --workspace --exclude -F --features --all-features --no-default-features --tests --format -h --help' ;;
+    'feats commands' | 'cargo commands') echo 'plan why why-not specs list duplicates tree dot report check diff slim help' ;;
+    'feats plan' | 'feats why-not' | 'feats specs' | 'feats list' | 'feats report') echo '--metadata --host --target --resolver --manifest -p --package --workspace --exclude -F --features --all-features --no-default-features --tests --format -h --help' ;;
     'feats why') echo '--all --metadata --host --target --resolver --manifest -p --package --workspace --exclude -F --features --all-features --no-default-features --tests --format -h --help' ;;
     'feats duplicates') echo '--alone --metadata --host --target --resolver --manifest -p --package --workspace --exclude -F --features --all-features --no-default-features --tests --format -h --help' ;;
     'feats tree') echo '-i --invert --depth -e --edges --metadata --host --target --resolver --manifest -p --package --workspace --exclude -F --features --all-features --no-default-features --tests --format -h --help' ;;
     'feats dot') echo '-e --edges --metadata --host --target --resolver --manifest -p --package --workspace --exclude -F --features --all-features --no-default-features --tests -h --help' ;;
     'feats check') echo '--every-choice --strict --metadata --host --target --resolver --manifest -p --package --workspace --exclude -F --features --all-features --no-default-features --tests --format -h --help' ;;
-    'feats diff') echo '--old-manifest --host --target --resolver --manifest -p --package --workspace --exclude -F --features --all-features --no-default-features --tests --format -h --help' ;;
+    'feats diff') echo '--old-manifest --report --host --target --resolver --manifest -p --package --workspace --exclude -F --features --all-features --no-default-features --tests --format -h --help' ;;
     'feats slim') echo '--member-manifests --metadata --host --target --resolver --manifest -p --package --workspace --exclude -F --features --all-features --no-default-features --tests --format -h --help' ;;
     'feats help' | 'cargo help') echo '' ;;
     'cargo plan' | 'cargo why-not' | 'cargo specs' | 'cargo list' | 'cargo slim') echo '--target --resolver --manifest -p --package --workspace --exclude -F --features --all-features --no-default-features --tests --format -h --help --manifest-path --locked --offline --frozen --config -Z -q --quiet -v --verbose --color -C -r --release --profile -j --jobs --keep-going --message-format' ;;
@@ -18,15 +18,16 @@ _feats_list() {
     'cargo duplicates') echo '--alone --target --resolver --manifest -p --package --workspace --exclude -F --features --all-features --no-default-features --tests --format -h --help --manifest-path --locked --offline --frozen --config -Z -q --quiet -v --verbose --color -C -r --release --profile -j --jobs --keep-going --message-format' ;;
     'cargo tree') echo '-i --invert --depth -e --edges --target --resolver --manifest -p --package --workspace --exclude -F --features --all-features --no-default-features --tests --format -h --help --manifest-path --locked --offline --frozen --config -Z -q --quiet -v --verbose --color -C -r --release --profile -j --jobs --keep-going --message-format' ;;
     'cargo dot') echo '-e --edges --target --resolver --manifest -p --package --workspace --exclude -F --features --all-features --no-default-features --tests -h --help --manifest-path --locked --offline --frozen --config -Z -q --quiet -v --verbose --color -C -r --release --profile -j --jobs --keep-going --message-format' ;;
+    'cargo report') echo '--target --resolver --manifest -p --package --workspace --exclude -F --features --all-features --no-default-features --tests --format -h --help -o --output --manifest-path --locked --offline --frozen --config -Z -q --quiet -v --verbose --color -C -r --release --profile -j --jobs --keep-going --message-format' ;;
     'cargo check') echo '--every-choice --strict --target --resolver --manifest -p --package --workspace --exclude -F --features --all-features --no-default-features --tests --format -h --help --manifest-path --locked --offline --frozen --config -Z -q --quiet -v --verbose --color -C -r --release --profile -j --jobs --keep-going --message-format' ;;
-    'cargo diff') echo '--old-manifest --target --resolver --manifest -p --package --workspace --exclude -F --features --all-features --no-default-features --tests --format -h --help --manifest-path --locked --offline --frozen --config -Z -q --quiet -v --verbose --color -C -r --release --profile -j --jobs --keep-going --message-format' ;;
+    'cargo diff') echo '--old-manifest --report --target --resolver --manifest -p --package --workspace --exclude -F --features --all-features --no-default-features --tests --format -h --help -o --output --manifest-path --locked --offline --frozen --config -Z -q --quiet -v --verbose --color -C -r --release --profile -j --jobs --keep-going --message-format' ;;
   esac
 }
 
 # Prints what completes the value of an option, or nothing if it has none. The arguments are the program and the option.
 _feats_value() {
   case "$1 $2" in
-    'feats --metadata' | 'feats --manifest' | 'feats --old-manifest' | 'feats --member-manifests' | 'cargo --manifest' | 'cargo --manifest-path' | 'cargo -C' | 'cargo --old-manifest') echo files ;;
+    'feats --metadata' | 'feats --manifest' | 'feats --old-manifest' | 'feats --member-manifests' | 'cargo --manifest' | 'cargo --manifest-path' | 'cargo -C' | 'cargo -o' | 'cargo --output' | 'cargo --old-manifest') echo files ;;
     'feats --host' | 'feats --target') echo platforms ;;
     'feats --resolver' | 'cargo --resolver') echo 'words 1 2 3' ;;
     'feats -p' | 'feats --package' | 'feats --exclude' | 'feats -i' | 'feats --invert' | 'cargo -p' | 'cargo --package' | 'cargo --exclude' | 'cargo -i' | 'cargo --invert') echo packages ;;
@@ -41,7 +42,7 @@ _feats_word() {
   case "$1 $2" in
     'why 0' | 'why-not 0' | 'list 0') echo packages ;;
     'check 0' | 'diff 0' | 'diff 1') echo files ;;
-    'help 0') echo 'words plan why why-not specs list duplicates tree dot check diff slim' ;;
+    'help 0') echo 'words plan why why-not specs list duplicates tree dot report check diff slim' ;;
   esac
 }
 

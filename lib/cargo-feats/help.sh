@@ -15,8 +15,16 @@ page() {
     s/, with the files of `feats plan --help`, and /, with /
     s/, with the files of `feats plan --help`//
     /^With the manifests/,/--member-manifests/d
+    1s/^Prints the data of the page that `cargo feats report` writes, as JSON$/Writes a page about the build, for a browser/
+    s/^( +--report  +)Print the data of the page that .*/\1Write a page about what differs, for a browser/
+    /^The data has the parts of /d
+    /^`--format text` and `--format json` print the same/d
+    s/^(  feats report .*) >server\.json$/\1 -o server.html/
     /^  (cargo metadata|rustc) /d
     /^  feats /{ s//  cargo feats /; s/ --(metadata|host|manifest) [^ ]+//g; }' <<<"$said")
+  case $command in
+    report | diff) said+=$'\n\n'$(usage | sed -n '/^Options of `report`/,/^$/p') ;;
+  esac
   if [ "$command" = diff ]; then said+=$'\n\n'$(usage | sed -n '/^Revisions for/,/^$/p'); fi
   write_by printf '%s\n\n%s\n' "$said" "$(usage | sed -n '/^Options for cargo/,/^$/p')"
 }

@@ -23,6 +23,7 @@ has_value() {
     --exclude | -i | --invert | --depth | -e | --edges) ;;
     --manifest-path | --config | -Z | -C | --color) ;;
     --profile | -j | --jobs | --message-format) ;;
+    -o | --output) ;;
     *) return 1 ;;
   esac
 }
@@ -42,6 +43,8 @@ take() {
     # (`cd -` is another folder)
     -C) [ -d "$2" ] && cd -- "${2/#-/./-}" 2>/dev/null || fail "cannot change to the folder \`$2\`" ;;
     --profile | -j | --jobs | --message-format) ;;
+    -o | --output) has_output=yes output=$2 ;;
+    --format) format=$2 for_feats+=("${@:3}") ;;
     --resolver | --manifest) has_resolver[builds]=yes for_feats+=("${@:3}") ;;
     *) for_feats+=("${@:3}") ;;
   esac
@@ -50,7 +53,7 @@ take() {
 # Takes the command, or a word before it.
 take_command() {
   case $1 in
-    plan | why | why-not | specs | list | duplicates | tree | dot | check | slim | diff) command=$1 ;;
+    plan | why | why-not | specs | list | duplicates | tree | dot | report | check | slim | diff) command=$1 ;;
     help) asks_help=yes ;;
     # Cargo runs `cargo-feats feats WORDS`, and sets CARGO to itself. Only the cargo of rustup, which is in PATH, takes a toolchain.
     feats) by_cargo=yes ;;
@@ -73,6 +76,7 @@ take_flag() {
     --locked | --offline | --frozen) for_cargo+=("$1") ;;
     -q | --quiet | -v | --verbose) for_each+=("$1") ;;
     -r | --release | --keep-going) ;;
+    --report) has_report=yes for_feats+=("$1") ;;
     --)
       builds=$((builds + 1))
       build_at[${#for_feats[@]}]=$builds
