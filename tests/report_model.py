@@ -2,7 +2,8 @@
 link_model.py and answer_model.py, and to be read.
 
 A unit is a package in a place where it is built. `roots` and `links` have numbers of units, from 0. `features` has the objects of `feats list`
-for each package that has a unit, in the order of the ids.
+for each package that has a unit, in the order of the ids. `declarations` has the declarations of these packages that lead to such packages, in the order
+of the ids, and then in that of the document.
 """
 import json
 import re
@@ -11,7 +12,7 @@ import answer_model
 import link_model
 from link_model import name_of_place, root_units, unit_links, units_of
 
-MEMBERS = ['version', 'units', 'roots', 'links', 'steps', 'features', 'specs']
+MEMBERS = ['version', 'units', 'roots', 'links', 'declarations', 'steps', 'features', 'specs']
 VERSION = 1
 # What no byte of the data is, so that it can stand in a page, and how it is written in place of that.
 UNSAFE = {character: f'\\u{ord(character):04x}' for character in '<>&\u2028\u2029'}
@@ -29,8 +30,21 @@ def units(plan):
         yield {'place': name_of_place(plan, place), 'id': id, 'name': package.name, 'version': package.version, 'features': features}
 
 
+def built_ids(plan):
+    return sorted({id for _, id in plan.built}, key=str.encode)
+
+
+def declarations(plan):
+    built = built_ids(plan)
+    for id in built:
+        for it in plan.packages[id].declarations:
+            if it.to in built:
+                yield {'package': id, 'dependency': it.name, 'kind': it.kind, 'optional': it.is_optional, 'platform': it.spec,
+                       'default-features': it.has_default, 'features': it.features, 'to': it.to}
+
+
 def features(plan):
-    for id in sorted({id for _, id in plan.built}, key=str.encode):
+    for id in built_ids(plan):
         yield from objects_in(answer_model.list_objects(plan, id))
 
 
@@ -44,7 +58,8 @@ def data_of(plan):
     """The data without its steps."""
     roots, links = numbered(plan)
     specs = objects_in(answer_model.specs_objects(plan.document, plan.selection))
-    return {'version': VERSION, 'units': list(units(plan)), 'roots': roots, 'links': links, 'features': list(features(plan)), 'specs': specs}
+    return {'version': VERSION, 'units': list(units(plan)), 'roots': roots, 'links': links, 'declarations': list(declarations(plan)),
+            'features': list(features(plan)), 'specs': specs}
 
 
 def safe(text):

@@ -12,7 +12,8 @@ from collections import Counter
 from urllib.parse import quote
 
 from plan_files import HOST
-from report_documents import HOSTILE
+from report_documents import HOSTILE, SPEC
+from report_model import safe
 from report_script import TEMPLATE, outcome, page_of, quoted
 
 
@@ -168,6 +169,87 @@ def package_shown(it, name, id):
     yield outcome(f'{name}: the features of {unit["name"]!a}', sorted(map(tuple, rows)), sorted(wanted.items()))
 
 
+# Declarations in words.
+
+def few(items, most=12, mark=', '):
+    return mark.join(items[:most]) + (f' and {len(items) - most} more' if len(items) > most else '')
+
+
+def declaration_words(line, name):
+    """A declaration that leads to a package with a name."""
+    words = ['optional' if line['optional'] else 'required', '' if line['dependency'] == name else f'as {shown(line["dependency"])}',
+             {'build': 'for builds', 'dev': 'for development'}.get(line['kind']), line['platform'] and f'for {shown(line["platform"])}',
+             '' if line['default-features'] else 'without default features', line['features'] and f'with {few(list(map(shown, line["features"])))}']
+    return ', '.join(it for it in words if it)
+
+
+def declared(it, id, to, counts=lambda line: True):
+    """The end of a row that has the declarations by which a package depends on another."""
+    lines = [declaration_words(line, packages_of(it)[to]['name']) for line in it.value.get('declarations', [])
+             if (line['package'], line['to']) == (id, to) and counts(line)]
+    return f' · {few(lines, 6, "; ")}' if lines else ''
+
+
+def through(it, step):
+    """The end of a row in a walk back: the declarations by which a package leads to a part of another one."""
+    start, is_split = step['from'], any(it['side'] == 'host' for it in it.value['steps'])
+    if step['reason'] not in ('depends', 'asks') or not {start['package'], step['package']} <= set(packages_of(it)):
+        return ''
+
+    def counts(line):
+        is_default = step['feature'] == 'default' and line['default-features']
+        is_for = not step['platforms'] or line['platform'] in step['platforms']
+        if not is_for or line['kind'] == 'build' and is_split and step['side'] == 'target':
+            return False
+        half = line['dependency'] if line['optional'] else None
+        return start['feature'] is not None or half == start['dependency'] and (step['reason'] == 'depends' or is_default or step['feature'] in line['features'])
+
+    return declared(it, start['package'], step['package'], counts)
+
+
+def dependencies_shown(it, name, id):
+    """Yields the outcomes of what depends on a package, and on what it depends, with the declarations."""
+    it.go(f'#id:{quote(id, safe="")}')
+    units = it.value['units']
+    own = {ix for ix, unit in enumerate(units) if unit['id'] == id}
+    for selector, ends in (('#dependents', {a: b for a, b in it.value['links'] if b in own}), ('#dependencies', {b: a for a, b in it.value['links'] if a in own})):
+        wanted = []
+        for unit in map(units.__getitem__, ends):
+            both = (unit['id'], id) if selector == '#dependents' else (id, unit['id'])
+            wanted.append(f'{shown(unit["name"])} {unit["version"]} {unit["place"]}{declared(it, *both)}')
+        yield outcome(f'{name}: {selector} of {id!a}', sorted(it.texts(f'{selector} li')), sorted(wanted))
+
+
+def declaring(page, path, data):
+    """Yields the outcomes of declarations of each sort, with hostile names, in place of those between two packages; and of none."""
+    value = json.loads(data)
+    step = next(it for it in value['steps'] if it['reason'] == 'depends' and it['from']['dependency'] is not None and it['side'] == 'target')
+    both = {'package': step['from']['package'], 'to': step['package']}
+    plain = {'dependency': step['from']['dependency'], 'kind': 'normal', 'optional': True, 'platform': None, 'default-features': True, 'features': []}
+    changes = [{}, {'optional': False}, {'kind': 'build'}, {'kind': 'dev', 'optional': False}, {'platform': 'cfg(unix)'}, {'default-features': False, 'features': list(HOSTILE)}]
+    more = [{'dependency': HOSTILE[0], 'kind': 'build', 'platform': SPEC, 'features': [HOSTILE[2]]}]
+    for those in (changes, more, [{'platform': it} for it in HOSTILE]):
+        value['declarations'] = [{**both, **plain, **it} for it in those]
+        it = Shown(page, path, safe(json.dumps(value)))
+        it.open()
+        yield outcome('the check with other declarations', (it.check(), it.page.messages), ('passed', []))
+        for id in both.values():
+            yield from dependencies_shown(it, f'{len(those)} declarations', id)
+        yield from walked(it, f'{len(those)} declarations', value['steps'].index(step))
+    value['declarations'] = [{**both, **plain, **it} for it in changes]
+    it = Shown(page, path, safe(json.dumps(value)))
+    it.open(f'#id:{quote(both["package"], safe="")}')
+    text = next(text for text in it.texts('#dependencies li') if ' · ' in text).partition(' · ')[2]
+    begin = 'optional; required; optional, for builds; required, for development; optional, for cfg(unix); optional, without default features, with '
+    yield outcome('declarations in words', text[:len(begin)], begin)
+    del value['declarations']
+    it = Shown(page, path, safe(json.dumps(value)))
+    it.open()
+    yield outcome('the check without declarations', (it.check(), it.page.messages), ('passed', []))
+    yield from dependencies_shown(it, 'no declarations', both['package'])
+    yield from walked(it, 'no declarations', value['steps'].index(step))
+
+
 def walked(it, name, ix):
     """Yields the outcomes of a walk back to the selection."""
     step = it.value['steps'][ix]
@@ -176,6 +258,9 @@ def walked(it, name, ix):
     found = it.texts('#walk .row')
     is_right = len(found) == len(wanted) and all(text.endswith(end) for text, end in zip(found, wanted))
     yield outcome(f'{name}: the walk back from {step["package"]!a} {end_of(step)!a}', (it.view(), is_right or f'{found}, wanted {wanted}'), ('part', True))
+    wanted_declarations = [through(it, one) for one in it.walk(ix)]
+    declarations = [' · '.join(['', *text.split(' · ')[2:]]) for text in it.texts('#walk li')]
+    yield outcome(f'{name}: the declarations on this walk', declarations, wanted_declarations)
     if len(wanted) > 1:
         before = it.get('location.hash')
         it.get('document.querySelectorAll("#walk .row")[1].focus()')
@@ -249,6 +334,8 @@ def changed(data):
     yield 'a feature without a reason', text(lambda it: it['units'][0]['features'].append('more'))
     yield 'a feature that is listed as on', text(lambda it: next(line for line in it['features'] if not line['target'] and not line['host']).update({'target': True}))
     yield 'a feature that is listed as off', text(lambda it: next(line for line in it['features'] if line['target']).update({'target': False}))
+    for end in ('package', 'to'):
+        yield f'a declaration whose `{end}` isn’t built', text(lambda it: it['declarations'][0].update({end: 'path+file:///a#other@1.0.0'}))
     yield 'a link to no unit', text(lambda it: it['links'].append([0, len(it['units'])]))
 
 
