@@ -11,8 +11,9 @@ import unicodedata
 from collections import Counter
 from urllib.parse import quote
 
+from plan_files import HOST
 from report_documents import HOSTILE
-from report_script import TEMPLATE, outcome, page_of
+from report_script import TEMPLATE, outcome, page_of, quoted
 
 
 def shown(text):
@@ -52,9 +53,9 @@ def address_of(spot):
 class Shown:
     """A page in the browser, with its data and the place of its file."""
 
-    def __init__(self, page, path, data):
+    def __init__(self, page, path, data, *line):
         self.page, self.path, self.data = page, path, data
-        path.write_text(page_of(data), encoding='utf-8')
+        path.write_text(page_of(data, *line), encoding='utf-8')
         self.value = json.loads(data)
         self.places = {part_of(it): ix for ix, it in enumerate(self.value.get('steps', []))}
 
@@ -110,7 +111,7 @@ def opened(it, name):
     it.open()
     yield outcome(f'{name}: no message on the console', it.page.messages, [])
     yield outcome(f'{name}: no other request', it.page.requests, [f'file://{it.path}'])
-    yield outcome(f'{name}: the check passes', it.check(), 'passed')
+    yield outcome(f'{name}: the check passes', (it.check(), it.texts('#view h1')[0].split(', ')[-1]), ('passed', 'a reason for each'))
     yield outcome(f'{name}: the summary', (it.view(), it.get('document.activeElement.id')), ('summary', 'search'))
     found = [[cell.replace(',', '') for cell in row] for row in it.get('[...document.querySelectorAll("#places tbody tr")].map((it) => [...it.cells].map((it) => it.textContent))')]
     packages, features = Counter(), Counter()
@@ -118,6 +119,16 @@ def opened(it, name):
         packages[unit['place']] += 1
         features[unit['place']] += len(unit['features'])
     yield outcome(f'{name}: counts by place', found, [[shown(place), str(packages[place]), str(features[place])] for place in packages])
+
+
+def worded(it, name, words):
+    """Yields the outcomes of the command and the platform above each view, which are text alone."""
+    wanted = [*(shown(quoted(word)) for word in ['report', *words]), HOST]
+    for address in ('', '#packages', '#no-such@1.0.0'):
+        it.go(address)
+        found = it.texts('#words bdi'), it.count('#words :not(bdi, code)'), it.get('document.getElementById("words").getClientRects().length')
+        yield outcome(f'{name}: the words at {address!a}', found, (wanted, 0, 1))
+    yield outcome(f'{name}: the words as a line', it.texts('#words'), [f'cargo feats {" ".join(wanted[:-1])} · target and host: {HOST}'])
 
 
 def packages_of(it):
@@ -262,7 +273,8 @@ def refused(page, path, data):
     for name, text in changed(data):
         it = Shown(page, path, text)
         it.open()
-        yield outcome(f'the check with {name}', (it.check(), it.page.messages), ('failed', []))
+        found = it.check(), it.texts('#view h1')[0].partition('; ')[2], it.count('#words'), it.page.messages
+        yield outcome(f'the check with {name}', found, ('failed', 'the check failed', 0, []))
     for name, text in (('no data', ''), ('the template', 'DATA'), ('another version', '{"version":2}'), ('an array that lacks', '{"version":1,"units":[]}'),
                        ('no JSON', '{"version":1'), ('other values', '{"version":1,"units":[1],"roots":[],"links":[],"steps":[],"features":[],"specs":[]}')):
         path.write_text(page_of(f'{text}\n'), encoding='utf-8')

@@ -1,9 +1,12 @@
 """Runs `cargo feats report` and `cargo feats diff --report` over stand-ins for cargo, rustc and ./feats: which files are written, and what is said.
 
-The stand-in for feats prints DATA and ends with the status ENDS. That for cargo prints DOCUMENT, and fails where it is empty.
+The stand-in for feats prints DATA and ends with the status ENDS. That for cargo prints DOCUMENT, and fails where it is empty; without --target it
+builds for TARGETS.
 """
+import html
 import json
 import os
+import re
 import shutil
 import stat
 import subprocess
@@ -11,6 +14,7 @@ from pathlib import Path
 from typing import NamedTuple
 
 from plan_files import HOST, TOP
+from report_documents import HOSTILE
 
 TEMPLATE = (TOP / 'lib/cargo-feats/report.html').read_text(encoding='utf-8')
 DATA = '{"version":1,\n"units":[\n]}\n'
@@ -25,9 +29,19 @@ case $1 in
     fi
     printf '%s\\n' "$DOCUMENT"
     ;;
-  tree) "$RUSTC_WRAPPER" rustc - --crate-name ___ --print=file-names --crate-type bin --print=cfg ;;
+  tree)
+    ask() { "$RUSTC_WRAPPER" rustc - --crate-name ___ --print=file-names "$@" --crate-type bin --print=cfg; }
+    ask
+    if [[ " $* " != *' --target '* ]]; then for it in $TARGETS; do set -- "$@" --target "$it"; done; fi
+    for ((; $# > 1; )); do
+      if [ "$1" = --target ]; then ask --target "${2/#host-tuple/''' + HOST + '''}"; fi
+      shift
+    done
+    ;;
 esac
 '''
+# The characters for which a shell has a letter after a backslash.
+NAMED = {ord(it): f'\\{letter}' for it, letter in zip('\a\b\t\n\v\f\r\x1b\\\'', 'abtnvfrE\\\'')}
 RUSTC = f"#!/bin/bash\nprintf 'rustc 1.0\\nhost: {HOST}\\n'\n"
 # It is first called with the path /dev/null/none in place of files, and says that this file isn't there.
 FEATS = '''#!/bin/bash
@@ -71,7 +85,7 @@ class Room:
         log.write_text('')
         (self.folder / 'temporary').mkdir(exist_ok=True)
         outside = {name: value for name, value in os.environ.items() if not name.startswith(('CARGO', 'RUST', 'GIT_'))}
-        env = {**outside, 'PATH': f'{self.folder / "bin"}:{os.environ["PATH"]}', 'TMPDIR': str(self.folder / 'temporary'), 'LOG': str(log), 'DATA': DATA,
+        env = {**outside, 'PATH': f'{self.folder / "bin"}:{os.environ["PATH"]}', 'TMPDIR': str(self.folder / 'temporary'), 'LOG': str(log), 'DATA': DATA, 'TARGETS': '',
                'DOCUMENT': self.document, 'CARGO_FEATS_CACHE': str(self.folder / 'facts'), **env}
         ran = subprocess.run([*command, self.top / 'cargo-feats', 'feats', *words], cwd=self.work, env=env, stdin=subprocess.DEVNULL, capture_output=True, timeout=120,
                              preexec_fn=lambda: os.umask(0o022))
@@ -79,8 +93,30 @@ class Room:
         return Ran(ran.stdout.decode(), ran.stderr.decode() + ''.join(f'left: {it}\n' for it in left), ran.returncode, log.read_text().splitlines())
 
 
-def page_of(data):
-    return TEMPLATE.replace('\nDATA\n', f'\n{data}', 1)
+def quoted(word):
+    """A word as a shell reads it."""
+    if re.search('[\x01-\x1f\x7f]', word):
+        return f"$'{''.join(NAMED.get(it) or (chr(it) if 32 <= it < 127 else f'{chr(92)}{it:03o}') for it in word.encode())}'"
+    return word if re.fullmatch(r'[\w@%+=:,./-]+', word, re.ASCII) else "'{}'".format(word.replace("'", "'\\''"))
+
+
+def isolated(text):
+    return f'<bdi>{html.escape(text, quote=False)}</bdi>'
+
+
+def paragraph(words, places=f'target and host: {isolated(HOST)}'):
+    """The line of a page with the words of its command and its platforms."""
+    return f'<p id="words" class="muted"><code>cargo feats{"".join(f" {isolated(quoted(it))}" for it in words)}</code> &middot; {places}</p>'
+
+
+def page_of(data, line='<!-- WORDS -->'):
+    before, middle, after = re.fullmatch('(.*\n)<!-- WORDS -->\n(.*\n)DATA\n(.*)', TEMPLATE, re.DOTALL).groups()
+    return f'{before}{line}\n{middle}{data}{after}'
+
+
+def made_by(words, data=DATA):
+    """The page that the words write."""
+    return page_of(data, paragraph(words))
 
 
 def outcome(name, found, wanted):
@@ -104,7 +140,7 @@ def defaults(room):
         file = room.target / f'cargo-feats/{name}.html'
         for ends in (0, 1):
             yield outcome(f'{words}, status {ends}', room.run(*words, ENDS=str(ends))[:3], (f'{file}\n', '', ends))
-            yield outcome(f'the page of {words}', kept(file), (page_of(DATA), '0o644', [f'{name}.html']))
+            yield outcome(f'the page of {words}', kept(file), (made_by(words), '0o644', [f'{name}.html']))
     ran = room.run('report', ENDS='2', DATA='other')
     yield outcome('a fault of feats', (ran[:3], kept(room.target / 'cargo-feats/report.html')), (('', 'feats: no\n', 2), None))
     ran = room.run('diff', 'old', 'new', '--report', '--resolver', '2', DOCUMENT='')
@@ -122,17 +158,21 @@ def files(room):
     """Yields the outcomes of cases with -o."""
     for words in (['-o', 'a page.html'], ['-oa page.html'], ['--output=a page.html'], ['--output', f'{room.work}/a page.html'], ['-o', 'no', '-o', 'a page.html']):
         ran = room.run('report', *words)
-        yield outcome(f'{words}', (ran[:3], kept(room.work / 'a page.html')), (('', '', 0), (page_of(DATA), '0o644', ['a page.html', 'new', 'old'])))
-    ran = room.run('report', '-o', 'a page.html', DATA='{"other":1}\n')
-    yield outcome('a page in place of another', (ran[:3], kept(room.work / 'a page.html')[0]), (('', '', 0), page_of('{"other":1}\n')))
-    ran = room.run('report', '-o', 'a page.html', ENDS='2')
-    yield outcome('a fault keeps the page', (ran[:3], kept(room.work / 'a page.html')[0]), (('', 'feats: no\n', 2), page_of('{"other":1}\n')))
+        yield outcome(f'{words}', (ran[:3], kept(room.work / 'a page.html')), (('', '', 0), (made_by(['report', *words]), '0o644', ['a page.html', 'new', 'old'])))
+    words = ['report', '-o', 'a page.html']
+    other = made_by(words, '{"other":1}\n')
+    ran = room.run(*words, DATA='{"other":1}\n')
+    yield outcome('a page in place of another', (ran[:3], kept(room.work / 'a page.html')[0]), (('', '', 0), other))
+    ran = room.run(*words, ENDS='2')
+    yield outcome('a fault keeps the page', (ran[:3], kept(room.work / 'a page.html')[0]), (('', 'feats: no\n', 2), other))
     (room.work / 'a link').symlink_to('a page.html')
-    ran = room.run('diff', 'old', 'new', '--report', '-o', 'a link', DOCUMENT='', ENDS='1')
-    yield outcome('a link', ((ran.output, ran.status), kept(room.work / 'a page.html')[0], (room.work / 'a link').is_symlink()), (('', 1), page_of(DATA), True))
+    words = ['diff', 'old', 'new', '--report', '-o', 'a link']
+    ran = room.run(*words, DOCUMENT='', ENDS='1')
+    yield outcome('a link', ((ran.output, ran.status), kept(room.work / 'a page.html')[0], (room.work / 'a link').is_symlink()), (('', 1), made_by(words), True))
     (room.work / 'below').mkdir()
-    ran = room.run('report', '-o', 'x.html', '-C', 'below')
-    yield outcome('a folder of -C', (ran[:3], kept(room.work / 'below/x.html')), (('', '', 0), (page_of(DATA), '0o644', ['x.html'])))
+    words = ['report', '-o', 'x.html', '-C', 'below']
+    ran = room.run(*words)
+    yield outcome('a folder of -C', (ran[:3], kept(room.work / 'below/x.html')), (('', '', 0), (made_by(words), '0o644', ['x.html'])))
     yield outcome('a device', (room.run('report', '-o', '/dev/null')[:3], stat.S_ISCHR(os.stat('/dev/null').st_mode)), (('', '', 0), True))
     yield outcome('a full device', room.run('report', '-o', '/dev/full')[:3], ('', 'cargo-feats: cannot write `/dev/full`\n', 2))
     yield outcome('a folder without files', room.run('report', '-o', '/proc/x.html')[:3], ('', 'cargo-feats: cannot write `/proc/x.html`\n', 2))
@@ -142,7 +182,7 @@ def files(room):
 
 def outputs(room):
     """Yields the outcomes of cases about standard output, and of --format json."""
-    yield outcome('standard output', room.run('report', '-o', '-')[:3], (page_of(DATA), '', 0))
+    yield outcome('standard output', room.run('report', '-o', '-')[:3], (made_by(['report', '-o', '-']), '', 0))
     yield outcome('a full standard output', room.run('report', '-o', '-', command=['bash', '-c', '"$@" >/dev/full', ''])[:3], ('', 'cargo-feats: cannot write the answer\n', 2))
     closed = ['bash', '-c', 'set -o pipefail; "$@" | true', '']
     yield outcome('a closed pipe', room.run('report', '-o', '-', command=closed)[:3], ('', '', 0))
@@ -163,7 +203,46 @@ def refusals(room):
         yield outcome(f'{words}', room.run(*words), ('', f'cargo-feats: {said}\n', 2, []))
 
 
+def line_of(room, *words, **env):
+    """The line of the page that the words write which isn't in the template, as bytes."""
+    ran = room.run(*words, '-o', 'line.html', **env)
+    page = (room.work / 'line.html').read_bytes()
+    before, after = (it.encode() for it in page_of(DATA).split('<!-- WORDS -->'))
+    if ran[:3] != ('', '', 0) or not page.startswith(before) or not page.endswith(after):
+        return ran, page
+    return page[len(before):len(page) - len(after)]
+
+
+# Words, and the HTML in which a page shows them.
+SHOWN = (('a,b c/d', "'a,b c/d'"), ('clap/std,x-y_z', 'clap/std,x-y_z'), ('', "''"), ('</p><script>', "'&lt;/p&gt;&lt;script&gt;'"), ('&amp;', "'&amp;amp;'"),
+         ('"it\'s"', "'\"it'\\''s\"'"), ('a\nb', "$'a\\nb'"), ('\nDATA\n<!-- WORDS -->\n', "$'\\nDATA\\n&lt;!-- WORDS --&gt;\\n'"), ('\x1b[1m', "$'\\E[1m'"),
+         ('\u202ecod', "'\u202ecod'"), ('é', "'é'"), ('\\1&\\&', "'\\1&amp;\\&amp;'"), ('\udce2<\udcff&', "'\udce2&lt;\udcff&amp;'"))
+
+
+def lines(room):
+    """Yields the outcomes of cases about the words and the platforms in the page."""
+    for locale in ('C', 'C.UTF-8'):
+        for word, shown in SHOWN:
+            wanted = paragraph(['report', '-F', '', '-o', 'line.html']).replace("''", shown).encode(errors='surrogateescape')
+            yield outcome(f'the word {word!a} in {locale}', line_of(room, 'report', '-F', word, LC_ALL=locale), wanted)
+        words = ['report', *(it for name in HOSTILE for it in ('-F', name))]
+        yield outcome(f'hostile words in {locale}', line_of(room, *words, LC_ALL=locale), paragraph([*words, '-o', 'line.html']).encode())
+    first, second, host = isolated('wasm32-wasip1'), isolated('a<b'), isolated(HOST)
+    named, other = ['--target', 'wasm32-wasip1'], ['--target', 'a<b']
+    for words, targets, places in ((['report', *named], 'no', f'target: {first}, host: {host}'), (['report', *named, *other], '', f'targets: {first}, {second}, host: {host}'),
+                                   (['report', '--target=host-tuple'], '', f'target: {host}, host: {host}'), (['diff', '--report', '--', '--'], '', f'target and host: {host}'),
+                                   (['diff', '--report', *named, '--', '-p', 'x', '--'], '', f'target: {first}, host: {host}'),
+                                   (['diff', '--report', '--', *named, '--'], '', f'old build, target: {first}, host: {host} &middot; new build, target and host: {host}')):
+        yield outcome(f'the platforms of {words}', line_of(room, *words, TARGETS=targets), paragraph([*words, '-o', 'line.html'], places).encode())
+    ran = room.run('report', '-o', 'line.html', TARGETS='wasm32-wasip1')
+    found = paragraph(['report', '-o', 'line.html'], f'target: {first}, host: {host}') in (room.work / 'line.html').read_text()
+    yield outcome('a target of the configuration', (ran.said, found), ('cargo-feats: the environment or the configuration of cargo sets the target wasm32-wasip1\n', True))
+    for words, shown in ((['--config', 'a.token="b=c"'], ['--config', 'a.token=...']), (['--config=a.token="b=c"'], ['--config=a.token=...']),
+                         (['--config', 'a.toml'], ['--config', 'a.toml']), (['-p', 'a=b'], ['-p', 'a=b'])):
+        yield outcome(f'the setting {words}', line_of(room, 'report', *words), paragraph(['report', *shown, '-o', 'line.html']).encode())
+
+
 def verdicts(folder):
     room = Room(Path(folder))
-    for part in (defaults, files, outputs, refusals):
+    for part in (defaults, files, outputs, refusals, lines):
         yield from part(room)

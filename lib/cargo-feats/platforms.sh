@@ -53,4 +53,5 @@ find_platforms() {
   fi
   if [ -n "$settings" ] && [ "$settings" != "$named" ]; then say "the environment or the configuration of cargo sets ${settings#; }"; fi
   named=$settings
+  note_platforms
 }

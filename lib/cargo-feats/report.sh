@@ -2,6 +2,8 @@
 
 # Whether the words have -o, and its file; whether they have --report; and the format that they name.
 has_output='' output='' has_report='' format=text
+# The words of the command line as they are, and the platforms of each build as HTML.
+typed=() built_for=()
 
 # Returns whether the answer of feats is the data of a page.
 makes_page() {
@@ -42,9 +44,77 @@ find_output() {
   mkdir -p -- "${output%/*}" 2>/dev/null || cannot_write "its folder can't be made"
 }
 
-# Prints the page: the template, with the data in place of the line `DATA`.
+# Appends a text to `line` as HTML. The element `bdi` keeps the direction of the text to itself.
+add_text() {
+  local text=$1
+  # (in quotes `&` doesn't stand for what is replaced)
+  text=${text//&/"&amp;"}
+  text=${text//</"&lt;"}
+  text=${text//>/"&gt;"}
+  line+="<bdi>$text</bdi>"
+}
+
+# Appends a word to `line`, with the quotes that it needs in a shell.
+add_word() {
+  local word=$1 quote="'\\''"
+  case $word in
+    *[[:cntrl:]]*) printf -v word %q "$word" ;;
+    '' | *[!a-zA-Z0-9_@%+=:,./-]*)
+      word=${word//\'/"$quote"}
+      word="'$word'"
+      ;;
+  esac
+  add_text "$word"
+}
+
+# Adds the host and the targets in `platforms`, those of a build, to `built_for`.
+note_platforms() {
+  local LC_ALL=C line='' number count=$((${#platforms[@]} / 2 - 1))
+  case $count in
+    0) line='target and ' ;;
+    1) line='target: ' ;;
+    *) line='targets: ' ;;
+  esac
+  # (`platforms` has the host first, and each triple with the file of its cfg text)
+  for ((number = 3; number < ${#platforms[@]}; number += 2)); do
+    add_text "${platforms[number]%%=*}"
+    line+=', '
+  done
+  line+='host: '
+  add_text "${platforms[1]%%=*}"
+  built_for+=("$line")
+}
+
+# Sets `line` to the paragraph of the page with the command and its platforms. Bytes are replaced, in any locale. The value of --config may be a
+# secret, as that of `registry.token`, so it is left out.
+find_line() {
+  local LC_ALL=C word last=''
+  line='<p id="words" class="muted"><code>cargo feats'
+  for word in "${typed[@]}"; do
+    if [[ $last = --config && $word = *=* ]]; then word=${word%%=*}=...; fi
+    if [[ $word = --config=*=* ]]; then
+      word=${word#*=}
+      word=--config=${word%%=*}=...
+    fi
+    line+=' '
+    add_word "$word"
+    last=$word
+  done
+  line+='</code>'
+  if [ ${#built_for[@]} -eq 2 ] && [ "${built_for[0]}" != "${built_for[1]}" ]; then
+    built_for=("old build, ${built_for[0]}" "new build, ${built_for[1]}")
+  else
+    built_for=("${built_for[0]}")
+  fi
+  for word in "${built_for[@]}"; do line+=" &middot; $word"; done
+  line+='</p>'
+}
+
+# Prints the page: the template, with `line` in place of the comment `WORDS`, and the data in place of the line `DATA`.
 print_page() {
-  sed '/^DATA$/,$d' "$parts/report.html" && cat -- "$room/answer" && sed '1,/^DATA$/d' "$parts/report.html"
+  local page=$parts/report.html words='^<!-- WORDS -->$'
+  sed "/$words/,\$d" "$page" && printf '%s\n' "$line" && sed "1,/$words/d; /^DATA\$/,\$d" "$page" &&
+    cat -- "$room/answer" && sed '1,/^DATA$/d' "$page"
 }
 
 # Writes the output of a command to the file `output`, by a new file beside it that then replaces it. A pipe or a device is written to directly.
@@ -63,8 +133,8 @@ write_output() {
 
 # Writes the page or, with --format json, its data. Without a file the data goes to standard output, and the page to the target directory.
 write_page() {
-  local write=(print_page)
-  if [ "$format" = json ]; then write=(cat -- "$room/answer"); fi
+  local write=(print_page) line
+  if [ "$format" = json ]; then write=(cat -- "$room/answer"); else find_line; fi
   if [ "$output" = - ] || { [ -z "$has_output" ] && [ "$format" = json ]; }; then
     write_by "${write[@]}"
   elif [ -n "$has_output" ]; then

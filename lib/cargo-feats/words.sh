@@ -89,6 +89,8 @@ take_flag() {
 
 read_words() {
   local value
+  typed=("$@")
+  if [ "${1-}" = feats ]; then typed=("${@:2}"); fi
   while [ $# -gt 0 ]; do
     if has_value "$1"; then
       # (`-j -1` leaves a processor to others)
