@@ -17,6 +17,10 @@ is_anywhere builds p = builds Target p || builds Host p
 abbrev pub package_lines : (Side → ℕ → Bool) → (Side → ℕ → LabelName → Bool) → ℕ → PackageText → Text
 package_lines builds built p x = if is_anywhere builds p then feature_objects built p x else []
 
--- The lines of the packages that the plan builds, in the order of their numbers.
+-- The lines of all packages, in the order of their numbers.
+abbrev pub features_of : (Side → ℕ → Bool) → (Side → ℕ → LabelName → Bool) → List PackageText → Text
+features_of builds built packages = joined_from (package_lines builds built) 0 packages
+
+-- The lines of the packages that the plan builds.
 abbrev pub built_features : Bool → List PackageText → PlanText → Text
-built_features split packages plan = joined_from (package_lines (is_built split plan.units) (is_part_built split plan)) 0 packages
+built_features split packages plan = features_of (is_built split plan.units) (is_part_built split plan) packages

@@ -1,3 +1,4 @@
+pub mod Declarations
 pub mod Features
 pub mod Numbers
 pub mod Objects

@@ -11,6 +11,7 @@ use Rattle.feats_why.specs.Objects.{why_objects}
 use Rattle.feats_why.specs.Settings.{settings_of}
 use Rattle.page_data.specs.Arrays.{array_of_lines}
 use Rattle.page_data.specs.Pages.{page_safe}
+use Rattle.feats_report.specs.Declarations.{built_declarations}
 use Rattle.feats_report.specs.Features.{built_features}
 use Rattle.feats_report.specs.Numbers.{number_tokens, pairs_tokens}
 use Rattle.feats_report.specs.Objects.{MemberText, object_text}
@@ -20,6 +21,7 @@ pub record PartsText : Type 0 where
   pub units : Text
   pub roots : Text
   pub links : Text
+  pub declarations : Text
   pub steps : Text
   pub features : Text
   pub specs : Text
@@ -33,6 +35,7 @@ data_text p = page_safe (object_text (
     member (codes "units") p.units
     ∷ member (codes "roots") p.roots
     ∷ member (codes "links") p.links
+    ∷ member (codes "declarations") p.declarations
     ∷ member (codes "steps") p.steps
     ∷ member (codes "features") p.features
     ∷ member (codes "specs") p.specs
@@ -65,6 +68,7 @@ pub record IsReport (w : WorkspaceText) (words : WordsText) (plan : PlanText) (u
     units = array_of_lines units;
     roots = roots_text plan;
     links = links;
+    declarations = array_of_lines (built_declarations words.selection.split w.packages plan);
     steps = steps;
     features = array_of_lines (built_features words.selection.split w.packages plan);
     specs = array_of_lines specs;

@@ -1,20 +1,17 @@
 //! The features of the packages that are built.
 ghost use Rattle.std.specs.Prelude.{◌≡◌, ◌++◌, IfOk, OnOk, map};
 ghost use Rattle.cargo_plans.specs.built_parts.BuiltViews.{builds_in, is_built_in};
-ghost use Rattle.cargo_plans.specs.plan_starts.Lists.{joined_from};
-ghost use Rattle.cargo_plans.specs.plan_steps.PlanViews.{plan_text};
 ghost use Rattle.cargo_workspaces.specs.Views.{package_text};
-ghost use Rattle.cargo_workspaces.specs.WorkspaceView.{workspace_text};
 ghost use Rattle.feats_report.specs.Features as spec;
 
+use cargo_plans::Side;
 use cargo_plans::built_parts::BuiltParts;
-use cargo_plans::{Plan, Side};
-use cargo_workspaces::{Package, Workspace};
+use cargo_workspaces::Package;
 use feats_list::features::feature_objects;
 use std::alloc::{AllocError, Global};
 
 /// Returns whether package `ix` is built on one of the sides.
-fn is_anywhere(parts: &BuiltParts<'_>, ix: usize) -> bool
+pub(crate) fn is_anywhere(parts: &BuiltParts<'_>, ix: usize) -> bool
     ensures { result ≡ spec.is_anywhere (builds_in parts.now) ix }
 {
     parts.builds(Side::Target, ix) || parts.builds(Side::Host, ix)
@@ -37,31 +34,17 @@ fn push_package(
     Ok(())
 }
 
-/// Returns the lines about the features of those of `packages` that are built.
-fn lines_of(
+/// Returns a line for each feature and each optional dependency of those of `packages` that are built, in the order of their numbers.
+pub(crate) fn features_of(
     alloc: Global,
     parts: &BuiltParts<'_>,
     packages: &[Package<'_>],
 ) -> Result<Vec<u8>, AllocError>
-    ensures { IfOk result (λ text. text.items ≡ joined_from (spec.package_lines (builds_in parts.now) (is_built_in parts.now)) 0 (map package_text packages.now)) }
+    ensures { IfOk result (λ text. text.items ≡ spec.features_of (builds_in parts.now) (is_built_in parts.now) (map package_text packages.now)) }
 {
     let mut text = Vec::new(alloc);
     for (ix, package) in packages.iter().enumerate() {
         push_package(alloc, &mut text, parts, ix, package)?;
     }
     Ok(text)
-}
-
-/// Returns a line for each feature and each optional dependency of the packages that `plan` builds, in the order of their numbers. `split`
-/// is whether the resolver tells the sides apart.
-pub(crate) fn built_features(
-    alloc: Global,
-    workspace: &Workspace<'_>,
-    split: bool,
-    plan: &Plan<'_>,
-) -> Result<Vec<u8>, AllocError>
-    ensures { IfOk result (λ text. text.items ≡ spec.built_features split (workspace_text workspace.now).packages (plan_text plan.now)) }
-{
-    let parts = BuiltParts::of_plan(alloc, split, plan)?;
-    lines_of(alloc, &parts, workspace.packages())
 }

@@ -1,6 +1,7 @@
 //! The data of a page about a build, as one JSON value.
 #![tactic(auto)]
 
+mod declarations;
 mod features;
 mod numbers;
 mod objects;

@@ -2,18 +2,22 @@
 ghost use Rattle.std.specs.Prelude.{◌≡◌, IfOk, false};
 ghost use Rattle.std.specs.List.{list_any};
 ghost use Rattle.cargo_plans.specs.Plans.{IsPlanOf};
+ghost use Rattle.cargo_plans.specs.built_parts.BuiltViews.{builds_in, is_built_in};
 ghost use Rattle.cargo_plans.specs.WordsView.{words_text};
 ghost use Rattle.cargo_plans.specs.plan_steps.PlanViews.{plan_text};
 ghost use Rattle.cargo_workspaces.specs.WorkspaceView.{workspace_text};
 ghost use Rattle.page_data.specs.Arrays.{array_of_lines};
 ghost use Rattle.page_data.specs.Pages.{is_markup};
-ghost use Rattle.feats_report.specs.Features.{built_features};
+ghost use Rattle.feats_report.specs.Declarations.{declarations_of};
+ghost use Rattle.feats_report.specs.Features.{features_of};
 ghost use Rattle.feats_report.specs.Reports as spec;
 ghost use Rattle.feats_report.specs.inner.Members.{parts_text};
 
-use crate::features::built_features;
+use crate::declarations::declarations_of;
+use crate::features::features_of;
 use crate::numbers::{numbers_text, pairs_text};
 use crate::objects::{Member, page_object};
+use cargo_plans::built_parts::BuiltParts;
 use cargo_plans::{Plan, PlanWords, Platform};
 use cargo_workspaces::Workspace;
 use feats_why::{settings_of, why_objects};
@@ -28,6 +32,7 @@ pub(crate) struct Parts<'r> {
     pub(crate) units: &'r [u8],
     pub(crate) roots: &'r [u8],
     pub(crate) links: &'r [u8],
+    pub(crate) declarations: &'r [u8],
     pub(crate) steps: &'r [u8],
     pub(crate) features: &'r [u8],
     pub(crate) specs: &'r [u8],
@@ -64,16 +69,27 @@ fn steps_text<P: Platform>(
     array_of_lines(alloc, &lines)
 }
 
-/// Returns the array of the features of the packages that `plan` builds. `split` is whether the resolver tells the sides apart.
+/// Returns the array of the declarations by which packages that are built lead to packages that are built. `built` are the built parts.
+fn declarations_text(
+    alloc: Global,
+    workspace: &Workspace<'_>,
+    built: &BuiltParts<'_>,
+) -> Result<Vec<u8>, AllocError>
+    ensures { IfOk result (λ text. text.items ≡ array_of_lines (declarations_of (builds_in built.now) (workspace_text workspace.now).packages)) }
+{
+    let lines = declarations_of(alloc, built, workspace.packages())?;
+    array_of_lines(alloc, &lines)
+}
+
+/// Returns the array of the features of the packages that are built. `built` are the built parts.
 fn features_text(
     alloc: Global,
     workspace: &Workspace<'_>,
-    split: bool,
-    plan: &Plan<'_>,
+    built: &BuiltParts<'_>,
 ) -> Result<Vec<u8>, AllocError>
-    ensures { IfOk result (λ text. text.items ≡ array_of_lines (built_features split (workspace_text workspace.now).packages (plan_text plan.now))) }
+    ensures { IfOk result (λ text. text.items ≡ array_of_lines (features_of (builds_in built.now) (is_built_in built.now) (workspace_text workspace.now).packages)) }
 {
-    let lines = built_features(alloc, workspace, split, plan)?;
+    let lines = features_of(alloc, built, workspace.packages())?;
     array_of_lines(alloc, &lines)
 }
 
@@ -96,6 +112,10 @@ fn data_of(alloc: Global, parts: Parts<'_>) -> Result<Vec<u8>, AllocError>
             value: parts.links,
         },
         Member {
+            name: "declarations",
+            value: parts.declarations,
+        },
+        Member {
             name: "steps",
             value: parts.steps,
         },
@@ -112,9 +132,9 @@ fn data_of(alloc: Global, parts: Parts<'_>) -> Result<Vec<u8>, AllocError>
 }
 
 /// Returns the data of a page about `plan`, which is that of `words`, as one JSON value and a line feed: the objects of the units in
-/// `units` and of the platform specs in `specs`, a line each; which units the selection starts, and which depend on which; why everything
-/// that is on is on; and the features of the packages that are built. No byte is `<`, `>` or `&`. An allocation's failure is the only
-/// error.
+/// `units` and of the platform specs in `specs`, a line each; which units the selection starts, and which depend on which; the
+/// declarations between the packages that are built; why everything that is on is on; and the features of the packages that are built. No
+/// byte is `<`, `>` or `&`. An allocation's failure is the only error.
 pub fn report_text<P: Platform>(
     alloc: Global,
     workspace: &Workspace<'_>,
@@ -127,16 +147,19 @@ pub fn report_text<P: Platform>(
     ensures report { IfOk result (λ text. spec.IsReport (workspace_text workspace.now) (words_text P.holds words.now) (plan_text plan.now) units.now specs.now text.items) }
     ensures safe { IfOk result (λ text. list_any is_markup text.items ≡ false) }
 {
+    let built = BuiltParts::of_plan(alloc, words.selection.split, plan)?;
     let units = array_of_lines(alloc, units)?;
     let roots = roots_text(alloc, plan)?;
     let links = links_text(alloc, plan)?;
+    let declarations = declarations_text(alloc, workspace, &built)?;
     let steps = steps_text(alloc, workspace, words, plan)?;
-    let features = features_text(alloc, workspace, words.selection.split, plan)?;
+    let features = features_text(alloc, workspace, &built)?;
     let specs = array_of_lines(alloc, specs)?;
     let parts = Parts {
         units: &units,
         roots: &roots,
         links: &links,
+        declarations: &declarations,
         steps: &steps,
         features: &features,
         specs: &specs,

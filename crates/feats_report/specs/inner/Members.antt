@@ -8,4 +8,4 @@ abbrev pub member_text : Member → MemberText
 member_text m = record { name = m.name.now; value = m.value.now }
 
 abbrev pub parts_text : Parts → PartsText
-parts_text p = record { units = p.units.now; roots = p.roots.now; links = p.links.now; steps = p.steps.now; features = p.features.now; specs = p.specs.now }
+parts_text p = record { units = p.units.now; roots = p.roots.now; links = p.links.now; declarations = p.declarations.now; steps = p.steps.now; features = p.features.now; specs = p.specs.now }

@@ -3,7 +3,7 @@ use Rattle.cargo_plans.specs.built_parts.BuiltViews.{builds_in, is_built_in}
 use Rattle.cargo_plans.specs.plan_starts.Lists.{joined_from}
 use Rattle.cargo_workspaces.specs.Views.{package_text}
 use Rattle.feats_report.specs.Features.{package_lines}
-use Rattle.feats_report.proofs.features.lines_of.Given as goal
+use Rattle.feats_report.proofs.features.features_of.Given as goal
 
 abbrev pub invariant-loop-ix : goal.invariant-loop-ix
 invariant-loop-ix l =

@@ -1,0 +1,7 @@
+use Rattle.feats_lines.proofs.Tokens.{appended, on_ok}
+use Rattle.feats_report.proofs.declarations.write_members.Goals as goal
+
+pub returns : goal.returns
+returns c = on_ok c.write_member-3.result c.write_member-3.ensures (λ last.
+    appended _ _ _ _ _ c.in_ok-write_member.ensures (appended _ _ _ _ _ c.in_ok-write_member-2.ensures
+    (appended _ _ _ _ _ c.in_ok-write_conditions.ensures (appended _ _ _ _ _ c.in_ok-write_asked.ensures last))))
