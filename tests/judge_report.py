@@ -1,4 +1,4 @@
-"""Judges the steps of `feats report` over the tables of plan_model.py, and trusts nothing that `feats` says of them.
+"""Judges the steps of `feats report` by the tables of plan_model.py alone, and by no other output of `feats`.
 
 Steps are an explanation of what is on if each is about a node that is on, about another one than the others, and turned on by its `from` where
 only its `gate` is on, and if both are at earlier steps. They hold exactly what is on if each node that is on has a step, but for the command
@@ -43,7 +43,7 @@ def fault_of_words(plan, node, step):
 
 
 def fault_of_step(plan, table, before, step):
-    """Returns why a step doesn't explain its node by those that stand before it, or None."""
+    """Returns why a step doesn't explain its node by the steps before it, or None."""
     node = node_of(step)
     if node in before:
         return f'{node} is listed twice'

@@ -1,5 +1,5 @@
 """A reference model of the data of `feats report`, but for its steps, which judge_report.py judges. It is written over plan_model.py,
-link_model.py and answer_model.py, and to be read.
+link_model.py and answer_model.py, and is meant to be read.
 
 A unit is a package in a place where it is built. `roots` and `links` have numbers of units, from 0. `features` has the objects of `feats list`
 for each package that has a unit, in the order of the ids. `declarations` has the declarations of these packages that lead to such packages, in the order
@@ -14,7 +14,7 @@ from link_model import name_of_place, root_units, unit_links, units_of
 
 MEMBERS = ['version', 'units', 'roots', 'links', 'declarations', 'steps', 'features', 'specs']
 VERSION = 1
-# What no byte of the data is, so that it can stand in a page, and how it is written in place of that.
+# The characters that the data of a page must not contain, each with its escape.
 UNSAFE = {character: f'\\u{ord(character):04x}' for character in '<>&\u2028\u2029'}
 WRONG = re.compile(f'[{"".join(UNSAFE)}\x00-\x09\x0b-\x1f\x7f-\x9f]')
 
