@@ -407,7 +407,7 @@ def policy():
 
 
 def looks(it):
-    """Yields the outcomes of light and dark colours, and of the page on paper."""
+    """Yields the outcomes of light and dark colours, and of the printed page."""
     it.open()
     colour = 'getComputedStyle(document.documentElement).backgroundColor'
     colours = []
@@ -417,7 +417,7 @@ def looks(it):
     it.page.colours('light')
     yield outcome('light and dark', (colours[0] > 600, colours[1] < 200), (True, True))
     it.page.call('Emulation.setEmulatedMedia', media='print')
-    yield outcome('the header on paper', it.get('getComputedStyle(document.querySelector("header")).display'), 'none')
+    yield outcome('the header of the printed page', it.get('getComputedStyle(document.querySelector("header")).display'), 'none')
     it.page.call('Emulation.setEmulatedMedia', media='')
 
 
