@@ -26,7 +26,7 @@ def platforms_of(plan, start, node):
 
     def leads(it):
         asked = [selection.host] if it.kind == 'build' or side == HOST else selection.platforms()
-        return (it.to == node[0][1] and plan.lands(it, side) == node[0][0] and (it.kind != 'dev' or selection.is_test)
+        return (it.to == node[0][1] and plan.lands(it, side) == node[0][0] and (it.kind != 'dev' or selection.needs_dev())
                 and (it.spec is None or any(platform.holds(it.spec) for platform in asked)))
 
     specs = {it.spec for it in plan.packages[id].declarations if leads(it)}

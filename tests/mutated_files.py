@@ -14,7 +14,7 @@ WINDOWS = 'x86_64-pc-windows-gnu'
 MANIFESTS = (b'[workspace]\nmembers = ["a", "b"]\nresolver = "3"\n\n[workspace.package]\nedition = "2021"\n',
              b'[package]\nname = "a"\nversion = "0.1.0"\nedition = "2024"\nresolver = "1"\n\n[dependencies]\nb = { path = "b", features = ["x"] }\n',
              b'[package]\nname = "a"\nversion.workspace = true\nedition.workspace = true\n\n[workspace]\n[workspace.package]\nedition = "2018"\n')
-SELECTIONS = ([], ['--workspace'], ['--workspace', '--all-features'], ['--workspace', '--no-default-features'], ['--workspace', '--tests'])
+SELECTIONS = ([], ['--workspace'], ['--workspace', '--all-features'], ['--workspace', '--no-default-features'], ['--workspace', '--command', 'test'])
 # In a file this text becomes bytes that aren't UTF-8.
 NOT_UTF_8 = 'not UTF-8'
 # Texts that a name, a version, a platform spec or an item of a feature may have.

@@ -83,8 +83,8 @@ class Cargo:
 
     def unit_graph(self, folder, words):
         """Returns the units of a build and the numbers of its roots, for a selection, given as words of `feats plan`."""
-        command = ['test', '--no-run'] if '--tests' in words else ['build']
-        graph = self.run(folder, [*command, *(it for it in words if it != '--tests'), *UNIT_GRAPH])
+        command = ['test', '--no-run'] if 'test' in values_of(words, '--command') else ['build']
+        graph = self.run(folder, [*command, *without_command(words), *UNIT_GRAPH])
         return graph['units'], graph['roots']
 
     def built(self, folder, words):
@@ -99,6 +99,11 @@ class Cargo:
 def values_of(words, *names):
     """The words that follow one of these names."""
     return [value for name, value in zip(words, words[1:]) if name in names]
+
+
+def without_command(words):
+    """The words without `--command` and its value."""
+    return [it for before, it in zip([None, *words], words) if '--command' not in (before, it)]
 
 
 def feature_words(words):

@@ -75,6 +75,7 @@ def word_faults():
     yield 'a resolver', [*usual, '--resolver', '4'], "`4` isn't a version of the resolver: write 1, 2 or 3"
     yield 'two resolvers', [*usual, '--resolver', '1', '--manifest', '{none}'], '--resolver and a manifest are both given: leave one out'
     yield 'a format', [*usual, '--format', 'xml'], "`xml` isn't a format: write text or json"
+    yield 'a command of cargo', [*usual, '--command', 'run'], "`run` isn't a command whose build is planned: write build or test"
     alone = '`--exclude` leaves members out of all members: write --workspace too'
     for name, words in (('default members', []), ('a package', ['-p', 'a']), ('a package and all features', ['-p', 'a', '--all-features'])):
         yield f'excluded from {name}', [*usual, *words, '--exclude', 'a'], alone
@@ -153,10 +154,18 @@ def plan_faults(cases):
     yield 'a feature of a dependency', command, ['-F', 'client/no'], f'package {at}/client#0.1.0 has no feature `no`: {manifest}'
     yield 'a feature of the root package', root, ['-F', 'no'], f'package {at}#top@0.1.0 has no feature `no`: {manifest}'
     yield 'a dependency of the root package', root, ['-F', 'no/x'], f'package {at}#top@0.1.0 declares no dependency `no`: {manifest}'
-    yield 'tests', others, ['-p', 'tested', '--tests'], \
-        f"package {at}/ext/tested#0.1.0 isn't a member of the workspace, and its tests need its dependencies for development: leave --tests out"
+    yield 'tests', others, ['-p', 'tested', '--command', 'test'], \
+        f"package {at}/ext/tested#0.1.0 isn't a member of the workspace, and its tests need its dependencies for development: leave `--command test` out"
     yield 'a package that is not on', others, ['-p', 'tested'], \
         f"package {at}/ext/tested#0.1.0 isn't built for the target: select a member that depends on it too"
+    for word in ('nobody', 'x*', '*y'):
+        yield f'no program {word}', cases['targets'], ['-p', 'a', '--lib', '--bin', word], \
+            f'no selected package has a target of the kind `bin` that fits `{word}`: write its name, or a pattern with `*`'
+    yield 'the second name', cases['targets'], ['-p', 'a', '--test', 'it', '--test', 'demo'], \
+        'no selected package has a target of the kind `test` that fits `demo`: write its name, or a pattern with `*`'
+    yield 'no library', cases['targets'], ['-p', 'c', '--lib'], 'no selected package has a library: leave --lib out'
+    yield 'a program without its features', cases['targets'], ['-p', 'a', '--bin', 'rare'], \
+        f"the target `rare` of package {at}/a#0.1.0 requires features, and not all are on: add --features for `f`"
     made = 'make it by `cargo metadata --format-version 1 --all-features --features WORDS` with the words of the selection'
     for case, word, name in ((lacking, 'b/g', 'leaf'), (cases['several-fit'], 'b/old', 'old')):
         yield f'no package for {name}', case, ['-F', word], f'the document has no package for the optional dependency `{name}` of {at}/ext/b#0.1.0: {made}'
@@ -213,6 +222,9 @@ def runs(room):
             features = between + case.words[-1].replace(',', between) + between
             words = [*command_of(case)[:-1], features]
             yield Run(f'the features {features!r}', words, '', json.dumps(case.general).encode(), table_of(case.plan), 0)
+    old = '`--tests` means `--command test` here, and will mean the targets of `cargo build --tests`: write --command'
+    for case in [case for case in cases_of(TOP / 'tests/plans/worked.plans') if (case.workspace, case.words[-2:]) == ('targets', ['--command', 'test']) and case.plan]:
+        yield Run('the old meaning of --tests', [*command_of(case)[:-2], '--tests'], old, json.dumps(case.general).encode(), table_of(case.plan), 0)
     for number, (manifest, wanted) in enumerate([*MANIFESTS.items(), *WITHOUT.items()]):
         path = os.path.join(room, f'{number}.toml')
         with open(path, 'w', encoding='utf-8') as it:

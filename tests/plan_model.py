@@ -19,6 +19,8 @@ from plan_files import TARGETS, all_cases, cases_of, command_of
 from platform_model import Target as Platform
 
 LIBRARIES = {'lib', 'rlib', 'dylib', 'cdylib', 'staticlib', 'proc-macro'}
+PLURALS = {'bin': 'bins', 'example': 'examples', 'test': 'tests', 'bench': 'benches'}
+KINDS = tuple(PLURALS)
 COMMAND = '[command]'
 HOST, TARGET = 'host', 'target'
 
@@ -219,11 +221,21 @@ class Selection(NamedTuple):
     features: list
     is_all: bool
     no_default: bool
-    is_test: bool
+    is_test: bool           # the build of `cargo test`, and else that of `cargo build`
     excluded: list = ()     # the words of --exclude, with `is_workspace`
+    lib: str = None         # 'must', with --lib, or 'may', with --all-targets
+    named: dict = {}        # of each of KINDS, whether all are chosen (True), or the words for their names
 
     def platforms(self):
         return self.targets or [self.host]
+
+    def has_targets(self):
+        """Whether words choose targets."""
+        return bool(self.lib or any(self.named.values()))
+
+    def needs_dev(self):
+        """Whether dependencies for development count."""
+        return self.is_test or any(self.named.get(kind) for kind in KINDS if kind != 'bin')
 
 
 def is_version(word, version):
@@ -251,10 +263,14 @@ def packages_named(document, word):
     return [id for id in document.packages if id == word] or [id for id, it in document.packages.items() if is_spec(word, it)]
 
 
-def members_fitting(document, pattern):
-    """The members whose names fit a pattern, in which a star stands for any text."""
-    pattern = re.compile('.*'.join(map(re.escape, pattern.split('*'))), re.DOTALL)
-    return [id for id in document.members if pattern.fullmatch(document.packages[id].name)]
+def pattern_of(word):
+    """A pattern, in which a star stands for any text."""
+    return re.compile('.*'.join(map(re.escape, word.split('*'))), re.DOTALL)
+
+
+def members_fitting(document, word):
+    """The members whose names fit a pattern."""
+    return [id for id in document.members if pattern_of(word).fullmatch(document.packages[id].name)]
 
 
 def selected_by(document, word):
@@ -382,6 +398,7 @@ class Plan:
         self.check_tests()
         self.resolved = visited(self.resolved_table(), self.starts_of(['root']))
         self.on = visited(self.on_table(), self.on_starts())
+        self.check_targets()
         self.starts = self.built_starts()
         self.check_document()
         self.built = {entry for entry, _, _ in visited(self.built_table(), [(it, 'base', '') for it in self.starts])}
@@ -427,7 +444,7 @@ class Plan:
 
     def admitted(self, package, it, side):
         selection = self.selection
-        if it.kind == 'dev' and not (package.id in self.commands and (selection.is_test or not selection.is_split)):
+        if it.kind == 'dev' and not (package.id in self.commands and (selection.needs_dev() or not selection.is_split)):
             return False
         if it.is_optional and not self.is_kept(package.id, it.name):
             return False
@@ -481,15 +498,40 @@ class Plan:
                                         for it in package.declarations if self.is_used(place, package, it)])
                 for id, package in self.packages.items() for place in (HOST, *range(len(self.selection.platforms())))}
 
-    def is_chosen(self, package, target):
-        kinds = set(target['kind'])
+    def chosen_by(self, target):
+        """By what a target is chosen: 'lib', one of KINDS, or '' if no words choose targets."""
+        selection, kinds, is_library = self.selection, set(target['kind']), bool(LIBRARIES & set(target['kind']))
         if 'custom-build' in kinds:
-            return False
-        if self.selection.is_test:
-            wanted = target['test'] or target['doctest'] or 'example' in kinds
-        else:
-            wanted = LIBRARIES & kinds or 'bin' in kinds
-        return bool(wanted) and all(self.has_required(package, it) for it in target.get('required-features', []))
+            return []
+        if not selection.has_targets():
+            tested = target['test'] or target['doctest'] or 'example' in kinds
+            return [''] if (tested if selection.is_test else is_library or 'bin' in kinds) else []
+        # (the document doesn't say whether a target has benchmarks: libraries and programs have them unless the manifest says otherwise)
+        all_of = {'bin': 'bin' in kinds, 'example': 'example' in kinds, 'test': target['test'], 'bench': is_library or bool({'bin', 'bench'} & kinds)}
+        ways = ['lib'] if selection.lib and is_library else []
+        return ways + [kind for kind in KINDS if (all_of[kind] if selection.named.get(kind) is True else self.is_named(kind, target))]
+
+    def is_named(self, kind, target):
+        """Whether a target of the kind is chosen by a word that its name fits."""
+        words = self.selection.named.get(kind, [])
+        return words is not True and kind in target['kind'] and any(pattern_of(it).fullmatch(target['name']) for it in words)
+
+    def check_targets(self):
+        """Refuses words for targets that choose none, and targets that are chosen by name and lack required features."""
+        targets = [(id, it) for id in self.selected for it in self.packages[id].targets]
+        if self.selection.lib == 'must' and not any(LIBRARIES & set(it['kind']) for _, it in targets):
+            raise Refused('no selected package has a library')
+        for kind in KINDS:
+            words = self.selection.named.get(kind, [])
+            for word in [] if words is True else words:
+                if not any(kind in it['kind'] and pattern_of(word).fullmatch(it['name']) for _, it in targets):
+                    raise Refused(f'no {kind} target fits {word}')
+        for id, it in targets:
+            if any(self.is_named(kind, it) for kind in KINDS) and not self.are_met(self.packages[id], it):
+                raise Refused(f'the target {it["name"]} of {id} requires features that are not on')
+
+    def are_met(self, package, target):
+        return all(self.has_required(package, it) for it in target.get('required-features', []))
 
     def has_required(self, package, word):
         """Whether a required feature is on. `d/f` is if `f` is on in a package to which a declaration `d` leads that version resolving
@@ -501,9 +543,14 @@ class Plan:
         platforms = [self.selection.host, *self.selection.platforms()]
         counting = {
             it.to for it in kept
-            if (it.kind != 'dev' or self.selection.is_test) and (it.spec is None or any(at.holds(it.spec) for at in platforms))
+            if (it.kind != 'dev' or self.selection.needs_dev()) and (it.spec is None or any(at.holds(it.spec) for at in platforms))
         }
-        return any(it.to in counting and feature in self.features(self.lands(it, TARGET), it.to) for it in kept)
+        return any(it.to in counting and feature in self.features(self.looked_at(it), it.to) for it in kept)
+
+    def looked_at(self, declaration):
+        """The side on which a feature of a dependency must be on that a target requires: the host also if an example of it is a macro."""
+        is_for_host = declaration.kind == 'build' or self.packages[declaration.to].has_macro()
+        return HOST if self.selection.is_split and is_for_host else TARGET
 
     def is_resolved(self, package, it):
         """Whether version resolving follows the declaration."""
@@ -516,11 +563,13 @@ class Plan:
         for id in self.selected:
             package = self.packages[id]
             for target in package.targets:
-                if not self.is_chosen(package, target):
+                ways = self.chosen_by(target)
+                if not ways or not self.are_met(package, target):
                     continue
+                with_dev = self.selection.is_test or any(it in ways for it in ('example', 'test', 'bench'))
                 for place in [HOST] if is_macro_target(target) else range(len(self.selection.platforms())):
                     self.check_on(place, id)
-                    starts[place, id] = self.selection.is_test
+                    starts[place, id] = starts.get((place, id), False) or with_dev
                     if package.is_macro():
                         starts.setdefault((HOST, id), False)
         return starts
@@ -553,7 +602,7 @@ def platform_of_word(word):
 
 
 def words_of(argv):
-    parser = argparse.ArgumentParser(prog='feats plan')
+    parser = argparse.ArgumentParser(prog='feats plan', allow_abbrev=False)
     parser.add_argument('--metadata', required=True)
     parser.add_argument('--host', required=True)
     parser.add_argument('--target', action='append', default=[])
@@ -561,8 +610,12 @@ def words_of(argv):
     parser.add_argument('-p', '--package', action='append')
     parser.add_argument('--exclude', action='append', default=[])
     parser.add_argument('-F', '--features', action='append', default=[])
-    for word in ('--workspace', '--all-features', '--no-default-features', '--tests'):
+    for word in ('--workspace', '--all-features', '--no-default-features', '--lib', '--all-targets'):
         parser.add_argument(word, action='store_true')
+    parser.add_argument('--command', choices=('build', 'test'))
+    for kind in KINDS:
+        parser.add_argument(f'--{kind}', action='append', default=[])
+        parser.add_argument(f'--{PLURALS[kind]}', action='store_true')
     return parser.parse_args(argv)
 
 
@@ -570,10 +623,13 @@ def selection_of(words, platforms=platform_of_word):
     """The selection of parsed words."""
     if words.exclude and not words.workspace:
         raise Refused('--exclude without --workspace')
+    named = {kind: words.all_targets or getattr(words, PLURALS[kind]) or getattr(words, kind) for kind in KINDS}
+    lib = 'may' if words.all_targets else 'must' if words.lib else None
+    is_old = words.command is None and not lib and not words.test and named == {'bin': [], 'example': [], 'test': True, 'bench': []}
     return Selection(
         platforms(words.host), [platforms(it) for it in words.target], words.resolver != '1', words.package, words.workspace,
-        [it for word in words.features for it in re.split('[ ,]+', word) if it], words.all_features, words.no_default_features, words.tests,
-        words.exclude)
+        [it for word in words.features for it in re.split('[ ,]+', word) if it], words.all_features, words.no_default_features,
+        words.command == 'test' or is_old, words.exclude, None if is_old else lib, {} if is_old else named)
 
 
 def plan_of(document, words, platforms=platform_of_word):

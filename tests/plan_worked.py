@@ -3,39 +3,9 @@
 All packages have a library. `leaf` has the features x, y and z. A plan is written as `place package features; ...`: `host`, or `target`,
 or with two targets `windows` and `mac`. Only a package with the name `old` has its version after the name.
 """
-from typing import NamedTuple
-
+import plan_worked_targets
+from plan_worked_rows import LEAF, XYZ, Row, Worked, leaf, member
 from plan_workspaces import BUILD, DEV, HOST, LINUX, MAC, WINDOWS, Declared, Package, Target, Workspace
-
-XYZ = {'x': [], 'y': [], 'z': []}
-LEAF = Package('ext/leaf', 'leaf', features=XYZ)
-
-
-class Row(NamedTuple):
-    words: str
-    plan: str
-    resolver: str = '2'
-    # cargo's plan, where it isn't that of docs/PLANS.md, and why
-    cargo: str = None
-    differs: str = ''
-
-
-class Worked(NamedTuple):
-    name: str
-    # the rule that the rows show
-    shows: str
-    packages: list
-    rows: list
-    # folders of the default members, or None
-    default: list = None
-
-
-def leaf(*features, **how):
-    return Declared('ext/leaf', features, **how)
-
-
-def member(name, *declared, **how):
-    return Package(name, name, declared=list(declared), **how)
 
 
 def weak(name, **how):
@@ -68,16 +38,16 @@ WORKED = [
         member('a', leaf(), leaf('x', table=DEV)), member('b', Declared('a')), LEAF,
     ], [
         Row('-p a --target linux', 'target a; target leaf'),
-        Row('-p a --target linux --tests', 'target a; target leaf x'),
+        Row('-p a --target linux --command test', 'target a; target leaf x'),
         Row('-p a --target linux', 'target a; target leaf x', '1'),
-        Row('-p b --target linux --tests', 'target a; target b; target leaf'),
+        Row('-p b --target linux --command test', 'target a; target b; target leaf'),
         Row('-p b --target linux', 'target a; target b; target leaf', '1'),
     ]),
     Worked('dev-host', 'dev-dependencies of a started package count on the host side too', [
         member('a', leaf(), leaf('x', table=DEV)), member('b', Declared('a', table=BUILD), has_script=True), LEAF,
     ], [
-        Row('-p a -p b --target windows --tests', 'host a; host leaf x; target a; target b; target leaf x'),
-        Row('-p b --target windows --tests', 'host a; host leaf; target b'),
+        Row('-p a -p b --target windows --command test', 'host a; host leaf x; target a; target b; target leaf x'),
+        Row('-p b --target windows --command test', 'host a; host leaf; target b'),
     ]),
     Worked('weak', 'the part of a weak item over required declarations doesn\'t wait', [
         Package('a', 'a', features={'w': ['leaf?/x'], 'on': ['dep:leaf']}, declared=[leaf(is_optional=True), leaf('y', table=BUILD)], has_script=True), LEAF,
@@ -109,19 +79,19 @@ WORKED = [
         member('a', Declared('a', ('x',), table=DEV), features=XYZ),
     ], [
         Row('--target linux -F a/y', 'target a'),
-        Row('--target linux -F a/y --tests', 'target a x y'),
+        Row('--target linux -F a/y --command test', 'target a x y'),
     ]),
     Worked('self-and-other', 'a package may depend on itself, and by another name on a package of the same name', [
         member('a', Declared('a', ('x',), table=DEV), Declared('ext/a', ('y',), rename='other', table=DEV), features=XYZ), Package('ext/a', 'a', '2.0.0', features=XYZ),
     ], [
         Row('', 'target a'),
-        Row('--tests', 'target a x; target a y'),
+        Row('--command test', 'target a x; target a y'),
     ]),
     Worked('proc-macro', 'a procedural macro that is selected starts on both sides', [
         member('pm', leaf(), leaf('x', table=DEV), library='proc-macro', targets=[Target('test', 'it')]), member('b', leaf()), LEAF,
     ], [
         Row('--workspace --target windows', 'host leaf; host pm; target b; target leaf'),
-        Row('--workspace --target windows --tests', 'host leaf x; host pm; target b; target leaf x; target pm'),
+        Row('--workspace --target windows --command test', 'host leaf x; host pm; target b; target leaf x; target pm'),
     ]),
     Worked('no-script', 'build-dependencies of a package without a script turn features on, and aren\'t built', [
         member('a', leaf('x', table=BUILD)), member('b', leaf('y', table=BUILD), has_script=True), LEAF,
@@ -140,20 +110,20 @@ WORKED = [
         member('a', Declared('b', table=DEV), features={'f': ['b/g']}), member('c', Declared('a', ('f',))),
         member('b', leaf(is_optional=True), features={'g': ['dep:leaf']}), LEAF,
     ], [
-        Row('-p a -p c --target linux --tests', 'target a f; target b g; target c'),
-        Row('-p a --target linux -F f --tests', 'target a f; target b g; target leaf'),
+        Row('-p a -p c --target linux --command test', 'target a f; target b g; target c'),
+        Row('-p a --target linux -F f --command test', 'target a f; target b g; target leaf'),
     ]),
     Worked('resolved-weak', 'version resolving doesn\'t wait for the dependency of a weak item', [
         member('a', Declared('b', table=DEV), features={'f': ['b/g']}), member('c', Declared('a', ('f',)), Declared('b', ('h',))),
         member('b', leaf(is_optional=True), features={'g': ['dep:leaf'], 'h': ['leaf?/x']}), LEAF,
     ], [
-        Row('-p a -p c --target linux --tests', 'target a f; target b g h; target c; target leaf x'),
+        Row('-p a -p c --target linux --command test', 'target a f; target b g h; target c; target leaf x'),
         Row('-p c --target linux', 'target a f; target b h; target c'),
     ]),
     Worked('macro-tests', 'the library of a procedural macro is built for its tests without their dependencies', [
         member('pm', leaf('x', table=DEV), library='proc-macro', library_lines=['test = false', 'doctest = false'], targets=[Target('test', 'it')]), LEAF,
     ], [
-        Row('--target windows --tests', 'host pm; target leaf x; target pm'),
+        Row('--target windows --command test', 'host pm; target leaf x; target pm'),
         Row('--target windows', 'host pm'),
     ]),
     Worked('macro-links', 'a script waits for that of a procedural macro with `links`, which is run for the host', [
@@ -164,19 +134,19 @@ WORKED = [
     Worked('macro-example', 'an example that is a procedural macro is built for the host, and its package starts on both sides', [
         member('a', leaf('x'), leaf('y', table=DEV), targets=[MACRO_EXAMPLE]), member('b', leaf(table=BUILD), has_script=True), member('c', Declared('a')), LEAF,
     ], [
-        Row('-p a --tests', 'host a; host leaf x y; target a; target leaf x y'),
-        Row('-p a --target windows --tests', 'host a; host leaf x y; target a; target leaf x y'),
-        Row('-p a --target windows --target mac --tests', 'host a; host leaf x y; windows a; windows leaf x y; mac a; mac leaf x y'),
+        Row('-p a --command test', 'host a; host leaf x y; target a; target leaf x y'),
+        Row('-p a --target windows --command test', 'host a; host leaf x y; target a; target leaf x y'),
+        Row('-p a --target windows --target mac --command test', 'host a; host leaf x y; windows a; windows leaf x y; mac a; mac leaf x y'),
         Row('-p a -p b --target windows', 'host leaf x; target a; target b; target leaf x'),
         Row('-p b --target windows', 'host leaf; target b'),
-        Row('-p c --target windows --tests', 'target a; target c; target leaf x'),
-        Row('-p a --target windows --tests', 'host a; host leaf x y; target a; target leaf x y', '1'),
+        Row('-p c --target windows --command test', 'target a; target c; target leaf x'),
+        Row('-p a --target windows --command test', 'host a; host leaf x y; target a; target leaf x y', '1'),
         Row('-p a -p b --target windows', 'host leaf x y; target a; target b; target leaf x y', '1'),
     ]),
     Worked('macro-test', 'a test with `proc-macro = true` is planned as any other', [
         member('a', leaf(), targets=[MACRO_TEST]), LEAF,
     ], [
-        Row('--target windows --tests', 'target a; target leaf', cargo='host a; host leaf; target a; target leaf',
+        Row('--target windows --command test', 'target a; target leaf', cargo='host a; host leaf; target a; target leaf',
             differs='the document doesn\'t say that the test is a procedural macro'),
     ]),
     Worked('required-kinds', 'a required feature of a dependency counts if a declaration is for this build and a platform of it', [
@@ -185,7 +155,7 @@ WORKED = [
         member('b', leaf('x')), LEAF,
     ], [
         Row('-p a -p b --target linux', 'target b; target leaf x'),
-        Row('-p a -p b --target linux --tests', 'target a; target b; target leaf x'),
+        Row('-p a -p b --target linux --command test', 'target a; target b; target leaf x'),
         Row('-p c -p b --target linux', 'target b; target leaf x'),
         Row('-p c -p b --target windows', 'target b; target c; target leaf x'),
     ]),
@@ -206,7 +176,7 @@ WORKED = [
     ], [
         Row(words, plan, resolver) for resolver in '12' for words, plan in (
             ('-p a -p b', 'target b; target dev-x g'),
-            ('-p a -p b --tests', 'target a; target b; target dev-x g; target normal-x'),
+            ('-p a -p b --command test', 'target a; target b; target dev-x g; target normal-x'),
             ('-p a -p c', 'target a; target c; target normal-x g'),
         )
     ]),
@@ -376,8 +346,8 @@ WORKED = [
         Row('-p old', 'refused'),
         Row('-p nobody', 'refused'),
         Row('-p tested', 'refused'),
-        Row('-p tested --tests', 'refused'),
-        Row('-p leaf --tests', 'target leaf x'),
+        Row('-p tested --command test', 'refused'),
+        Row('-p leaf --command test', 'target leaf x'),
     ]),
     Worked('unbuilt', 'what a package without a build script declares for builds is on, and isn\'t built by it', [
         member('a', leaf('x', table=BUILD)), member('b', leaf('y', table=BUILD), has_script=True), member('c', leaf('z')), LEAF,
@@ -393,7 +363,7 @@ WORKED = [
 
 def workspaces():
     """Yields the workspaces with their rows, one for each resolver that the rows of a name have."""
-    for it in WORKED:
+    for it in [*WORKED, *plan_worked_targets.WORKED]:
         for resolver in sorted({row.resolver for row in it.rows}):
             rows = [row for row in it.rows if row.resolver == resolver]
             yield Workspace(it.name if resolver == '2' else f'{it.name}-{resolver}', resolver, it.packages, it.default), it.shows, rows

@@ -375,7 +375,7 @@ def with_features(numbers, document, words, chosen):
         words += [word for it in features for word in ('-F', it)]
     words += ['--all-features'] if is_all else []
     words += ['--no-default-features'] if numbers.chance(40) else []
-    words += ['--tests'] if numbers.chance(50) else []
+    words += ['--command', 'test'] if numbers.chance(50) else []
     targets = numbers.some_of(TRIPLES, numbers.one_of((0, 0, 1, 1, 2)))
     return words + [word for it in targets for word in ('--target', it)]
 

@@ -21,6 +21,7 @@ has_value() {
   case $1 in
     -p | --package | -F | --features | --target | --resolver | --manifest | --old-manifest | --format) ;;
     --exclude | -i | --invert | --depth | -e | --edges) ;;
+    --command | --bin | --example | --test | --bench) ;;
     --manifest-path | --config | -Z | -C | --color) ;;
     --profile | -j | --jobs | --message-format) ;;
     -o | --output) ;;

@@ -38,6 +38,7 @@ fn copy_of_target<'v>(alloc: Global, target: &Target<'v>) -> Result<Target<'v>, 
     let crate_types = Vec::from_slice(alloc, &target.crate_types)?;
     let required_features = Vec::from_slice(alloc, &target.required_features)?;
     Ok(Target {
+        name: target.name,
         kinds,
         crate_types,
         test: target.test,

@@ -51,7 +51,7 @@ module _ {E : Type 0} where
       IfOk-weaker r _ _ (λ v is. (refl, visit_of (rows_of (on_entries w s (is_kept kept))) (on_starts w s) (map place_view taken) t v are (given_as _ places taken from same) is))
 
   -- Step `built`.
-  pub built_tables : (w : WorkspaceText) (s : SettingsText) (on : PairVisit) (from : Starts) (flags : List Bool) (rows : List RowText) (r : Result Tables E) → flags ≡ dev_flags s.test (length s.targets) from
+  pub built_tables : (w : WorkspaceText) (s : SettingsText) (on : PairVisit) (from : Starts) (flags : List Bool) (rows : List RowText) (r : Result Tables E) → flags ≡ dev_flags (length s.targets) from
       → rows ≡ rows_of (built_entries w s (turned_on on) (flag_at flags)) → IfOk r (λ t. tables_of rows ≡ Ok t) → IfOk r (λ t. AreBuiltTables w s on from t)
   unfolding AreBuiltTables
   built_tables w s on from flags rows r same are =
@@ -61,4 +61,4 @@ module _ {E : Type 0} where
       → map place_view places ≡ start_places (length s.targets) from → IfOk r (λ v. IsVisit t (map place_view places) v) → IfOk r (λ v. IsBuiltFrom w s on from v)
   unfolding IsBuiltFrom AreBuiltTables
   built_visit w s on from places t r are starts =
-      IfOk-weaker r _ _ (λ v is. visit_of (rows_of (built_entries w s (turned_on on) (flag_at (dev_flags s.test (length s.targets) from)))) (start_places (length s.targets) from) (map place_view places) t v are starts is)
+      IfOk-weaker r _ _ (λ v is. visit_of (rows_of (built_entries w s (turned_on on) (flag_at (dev_flags (length s.targets) from)))) (start_places (length s.targets) from) (map place_view places) t v are starts is)

@@ -10,8 +10,8 @@ mod words;
 
 pub use fault::PlanFault;
 pub use plan_steps::{
-    PackageVisit, Place, Plan, Platform, Settings, Side, StepFault, Unit, on_places,
+    PackageVisit, Place, Plan, Platform, Settings, Side, StepFault, UnfitWord, Unit, on_places,
 };
-pub use plan_words::{PackageChoice, Selection, WordFault};
+pub use plan_words::{KindWords, PackageChoice, Selection, TargetChoice, WordFault};
 pub use planning::plan;
 pub use words::PlanWords;

@@ -13,7 +13,7 @@ mod plans;
 mod resolved_step;
 mod stages;
 
-pub use crate::plan_units::{PackageVisit, Place, Unit};
+pub use crate::plan_units::{PackageVisit, Place, UnfitWord, Unit};
 pub use fault::StepFault;
 pub use on_step::on_places;
 pub use plan::Plan;

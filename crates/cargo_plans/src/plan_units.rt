@@ -8,8 +8,8 @@ mod units;
 pub use commands::push_commands;
 pub use lacking::first_lacking;
 pub use plan_starts::{
-    FeatureLabel, PackageGraph, PackageVisit, Side, Starts, TargetRules, Visited, dev_flags,
-    first_missing, first_without_tests, start_places, starts_of, visit,
+    FeatureLabel, PackageGraph, PackageVisit, Side, Starts, TargetRules, UnfitWord, Visited,
+    dev_flags, first_missing, first_unfit, first_without_tests, start_places, starts_of, visit,
 };
 pub use unit::{Place, Unit};
 pub use units::units_of;

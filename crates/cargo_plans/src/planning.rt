@@ -29,7 +29,7 @@ fn plan_chosen<'w, P: Platform>(
 {
     let settings = Settings {
         split: words.selection.split,
-        test: words.test,
+        choice: words.choice,
         commands: &chosen.commands,
         host: words.host,
         targets: words.targets,
@@ -37,8 +37,8 @@ fn plan_chosen<'w, P: Platform>(
     plan_of(alloc, workspace, &settings, &chosen.selected)
 }
 
-/// Returns the plan of `workspace` for `words`; else the first fault: of the words, then of tests, of a started package that isn't
-/// on, and of a dependency that the document lacks. `StepFault::Memory` if an allocation fails.
+/// Returns the plan of `workspace` for `words`; else the first fault: of the words, then of tests, of words for targets, of a
+/// started package that isn't on, and of a dependency that the document lacks. `StepFault::Memory` if an allocation fails.
 pub fn plan<'w, P: Platform>(
     alloc: Global,
     workspace: &'w Workspace<'_>,

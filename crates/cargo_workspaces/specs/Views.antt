@@ -26,6 +26,7 @@ declaration_text d = record {
 
 abbrev pub target_text : Target → TargetText
 target_text t = record {
+  name = t.name.now;
   kinds = texts t.kinds.items;
   crate_types = texts t.crate_types.items;
   test = t.test;

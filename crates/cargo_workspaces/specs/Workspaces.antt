@@ -30,6 +30,7 @@ pub record DeclarationText : Type 0 where
   pub leads_to : Option ℕ
 
 pub record TargetText : Type 0 where
+  pub name : Text
   pub kinds : List Text
   pub crate_types : List Text
   pub test : Bool

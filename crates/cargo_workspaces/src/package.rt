@@ -39,6 +39,8 @@ pub struct Declaration<'v> {
 /// A target of a package, as a library, a program or a build script.
 #[derive(Drop)]
 pub struct Target<'v> {
+    /// Empty if the document doesn't contain it.
+    pub name: &'v str,
     /// The words of its kind: `lib`, `proc-macro`, `bin`, `example`, `test`, `bench`, `custom-build` and others.
     pub kinds: Vec<&'v str>,
     /// The crate types; an example may be of the type `proc-macro`. Empty if the document doesn't contain them.

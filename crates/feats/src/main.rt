@@ -8,6 +8,7 @@
 #![tactic(auto)]
 
 mod comparisons;
+mod warnings;
 
 ghost use Rattle.std.specs.Prelude.{◌≡◌, false, IfOk};
 ghost use Rattle.byte_devices.specs.StdDevices.{read_failed};
@@ -16,6 +17,7 @@ use crate::comparisons::{
     SideInputs, compared_requests, compared_words, one_format, run as run_difference,
     run_by_one_document,
 };
+use crate::warnings::{warn, warn_of_tests};
 use byte_devices::{ByteInput, FromReader, ToWriter};
 use clap::Error;
 use clap::error::ErrorKind as MistakeKind;
@@ -181,17 +183,6 @@ fn outcome(ended: Ended, is_closed: bool) -> Result<bool, Fault> {
     }
 }
 
-/// Prints each of `warnings` as a line on standard error.
-fn warn(rt: &HostRuntime, warnings: &[String]) {
-    for warning in warnings {
-        // A failed write to standard error can't be reported anywhere.
-        let _ = match escaped(rt.alloc(), warning) {
-            Ok(shown) => eprintln!(rt; "feats: {shown}"),
-            Err(_) => eprintln!(rt; "feats: out of memory for a warning"),
-        };
-    }
-}
-
 /// Writes the answer over the document of `reader` to standard output, and the warnings to standard error. Returns whether it is negative.
 fn answer_document<R: ByteInput>(
     rt: &HostRuntime,
@@ -312,6 +303,7 @@ fn compare_requests(rt: &HostRuntime, old: Request<'_>, new: Request<'_>) -> Res
     let old = command_arguments(rt.alloc(), old)?;
     let new = command_arguments(rt.alloc(), new)?;
     one_format(rt.alloc(), &old, &new)?;
+    warn_of_tests(rt, old.has_old_tests || new.has_old_tests);
     let files = plan_files(rt, &old, None)?;
     let old = SideInputs {
         arguments: &old,
@@ -330,6 +322,7 @@ fn compare_documents(rt: &HostRuntime, request: &Request<'_>, new: &str) -> Resu
 fn answer_one(rt: &HostRuntime, request: Request<'_>) -> Result<bool, Fault> {
     let arguments = command_arguments(rt.alloc(), request)?;
     let files = plan_files(rt, &arguments, None)?;
+    warn_of_tests(rt, arguments.has_old_tests);
     answer(rt, &arguments, &files)
 }
 

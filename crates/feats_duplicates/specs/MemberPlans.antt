@@ -16,7 +16,7 @@ select_one id s = record { packages = named (id ∷ []); features = s.features; 
 
 -- The words with the package of this id as the only selected one.
 abbrev pub alone : Text → WordsText → WordsText
-alone id words = record { selection = select_one id words.selection; test = words.test; host = words.host; targets = words.targets }
+alone id words = record { selection = select_one id words.selection; choice = words.choice; host = words.host; targets = words.targets }
 
 -- What a selection builds, or the message why it has no plan.
 pub data OutcomeText : Type 0 where

@@ -49,7 +49,7 @@ fn words_of<'w, 'n, P: Platform>(
 {
     PlanWords {
         selection: selection_of(words.selection, package),
-        test: words.test,
+        choice: words.choice,
         host: words.host,
         targets: words.targets,
     }

@@ -49,6 +49,14 @@ pub fn words_refused(alloc: Global, fault: WordsFault<'_>) -> Fault
             alloc,
             &["`--exclude` leaves members out of all members: write --workspace too"],
         ),
+        WordsFault::Command(word) => refused(
+            alloc,
+            &[
+                "`",
+                word,
+                "` isn't a command whose build is planned: write build or test",
+            ],
+        ),
         WordsFault::Depth(word) => refused(
             alloc,
             &["`", word, "` isn't a depth: write a decimal number"],

@@ -5,8 +5,9 @@ ghost use Rattle.plan_rows.specs.platforms.DeclaredSpecs.{declared_specs};
 ghost use Rattle.plan_rows.specs.platforms.HeldSpecs.{holds_on};
 ghost use Rattle.plan_rows.specs.platforms.Views.{declared_text};
 ghost use Rattle.plan_words.specs.Selections.{choice_text, selection_text};
+ghost use Rattle.plan_words.specs.TargetChoices.{kind_text, target_choice_text};
 ghost use Rattle.cargo_plans.specs.WordsView.{words_text};
-ghost use Rattle.feats_words.specs.Views.{arguments_text};
+ghost use Rattle.feats_words.specs.Views.{arguments_text, kind_words_text};
 ghost use Rattle.feats_files.specs.Messages.{Says};
 ghost use Rattle.feats_plans.specs.BasisView.{basis_text};
 ghost use Rattle.feats_plans.specs.Inputs.{inputs_text};
@@ -17,11 +18,11 @@ use crate::basis::Basis;
 use crate::inputs::PlanFiles;
 use crate::planned::{PlanVisitor, Planned};
 use cargo_manifests::resolvers::Resolver;
-use cargo_plans::{PackageChoice, PlanWords, Selection, plan};
+use cargo_plans::{KindWords, PackageChoice, PlanWords, Selection, TargetChoice, plan};
 use cargo_workspaces::Workspace;
 use feats_files::plan_messages::{is_memory, plan_refused};
 use feats_files::{Fault, held_on, held_on_each};
-use feats_words::CommandArguments;
+use feats_words::{CommandArguments, KindWords as KindArguments};
 use plan_rows::platforms::{DeclaredSpec, HeldSpecs, declared_specs};
 use std::alloc::Global;
 
@@ -54,6 +55,44 @@ fn selection<'s>(arguments: &'s CommandArguments<'_>, version: Resolver) -> Sele
     }
 }
 
+/// Returns the words of a kind of targets, where `all` is whether all targets are chosen.
+fn kind_words<'s>(all: bool, words: &'s KindArguments<'_>) -> KindWords<'s>
+    ensures { kind_text result ≡ spec.kind_words all (kind_words_text words.now) }
+{
+    KindWords {
+        all: all || words.all,
+        names: &words.names,
+    }
+}
+
+/// Returns the words for tests. The word for all of them is left out, if it has its old meaning.
+fn test_words<'s>(arguments: &'s CommandArguments<'_>) -> KindWords<'s>
+    ensures { kind_text result ≡ spec.test_words (arguments_text arguments.now) }
+{
+    let words = &arguments.target_words;
+    KindWords {
+        all: words.all_targets || words.tests.all && !arguments.has_old_tests,
+        names: &words.tests.names,
+    }
+}
+
+/// Returns the targets that `arguments` choose.
+fn target_choice<'s>(arguments: &'s CommandArguments<'_>) -> TargetChoice<'s>
+    ensures { target_choice_text result ≡ spec.target_choice (arguments_text arguments.now) }
+{
+    let words = &arguments.target_words;
+    let all = words.all_targets;
+    TargetChoice {
+        test: arguments.test,
+        lib: all || words.lib,
+        needs_lib: words.lib && !all,
+        bins: kind_words(all, &words.bins),
+        examples: kind_words(all, &words.examples),
+        tests: test_words(arguments),
+        benches: kind_words(all, &words.benches),
+    }
+}
+
 /// Returns what `arguments` say about a plan, where `host` and `targets` are the specs that hold.
 fn words_by<'s, 'n, 'h>(
     arguments: &'s CommandArguments<'_>,
@@ -65,7 +104,7 @@ fn words_by<'s, 'n, 'h>(
 {
     PlanWords {
         selection: selection(arguments, version),
-        test: arguments.tests,
+        choice: target_choice(arguments),
         host,
         targets,
     }

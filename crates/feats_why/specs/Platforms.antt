@@ -20,7 +20,7 @@ abbrev pub leads_to_spot : SettingsText → Bool → SpotText → SpotText → D
 leads_to_spot s macro start at d =
     both_lead_to d.leads_to (Some at.number)
     && is_same_side (lands s.split d macro start.side) at.side
-    && (not (is_development d.kind) || s.test)
+    && (not (is_development d.kind) || s.development)
     && applies_on s.host s.targets start.side d
 
 -- The platform of a declaration that passes the test.

@@ -60,7 +60,7 @@ fn leads<P: Platform>(
             lands(settings.split, declaration, between.is_macro, side),
             between.at.side,
         )
-        && (declaration.kind != Kind::Development || settings.test)
+        && (declaration.kind != Kind::Development || settings.development)
         && applies_on(settings.host, settings.targets, side, declaration)
 }
 

@@ -12,8 +12,8 @@ use plan_rows::Platform;
 pub struct WhySettings<'n, P> {
     /// True if the resolver tells the sides apart, as 2 and 3 do. Then ` (host)` follows the labels of spots on the host side.
     pub split: bool,
-    /// True if tests are built.
-    pub test: bool,
+    /// True if dependencies for development count: in tests, and if there are words for examples, tests or benchmarks.
+    pub development: bool,
     /// The platform on which the build runs.
     pub host: &'n P,
     /// The target platforms.
@@ -26,7 +26,7 @@ pub fn settings_of<'n, P: Platform>(words: &PlanWords<'_, 'n, P>) -> WhySettings
 {
     WhySettings {
         split: words.selection.split,
-        test: words.test,
+        development: words.choice.needs_development(),
         host: words.host,
         targets: words.targets,
     }

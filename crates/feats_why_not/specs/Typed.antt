@@ -6,6 +6,7 @@ use Rattle.cargo_plans.specs.Plans.{IsPlanOf, WordsText}
 use Rattle.cargo_plans.specs.Refusals.{IsRefusal, is_memory}
 use Rattle.cargo_plans.specs.declared.fault.PlanFault.{PlanFault}
 use Rattle.plan_words.specs.Selections.{SelectionText, named}
+use Rattle.plan_words.specs.TargetChoices.{needs_development, of_command}
 use Rattle.shown_texts.specs.Shown.{escaped}
 use Rattle.feats_why_not.specs.Answers.{AnswerText, explained, not_planned, off, unbuilt}
 use Rattle.feats_why_not.specs.Parts.{PartText}
@@ -16,9 +17,9 @@ use Rattle.feats_why_not.specs.Tries.{TypedText, one_text, tries_of}
 abbrev pub typed_selection : Bool → TypedText → SelectionText
 typed_selection split t = record { packages = named (t.name ∷ []); features = one_text t.feature; all_features = false; no_default_features = false; split = split }
 
--- The words of a command line with this resolver and these platforms.
+-- The words of a command line with this resolver and these platforms. They have no words for targets, besides that for tests.
 abbrev pub typed_words : WordsText → TypedText → WordsText
-typed_words here t = record { selection = typed_selection here.selection.split t; test = t.test; host = here.host; targets = here.targets }
+typed_words here t = record { selection = typed_selection here.selection.split t; choice = of_command t.test; host = here.host; targets = here.targets }
 
 -- What words have: a plan, or a reason why they have none.
 abbrev pub HasOutcome : WorkspaceText → WordsText → Result PlanText PlanFault → Type 0
@@ -56,7 +57,7 @@ is_single (part ∷ more ∷ parts) = false
 -- THE WORDS TO TYPE for an answer by `words`: of the words that are tried, the first that build the part. The command line is `here`, and
 -- `alone` is whether it asks about one part.
 abbrev pub IsTyped : Bool → WorkspaceText → WordsText → WordsText → PartText → AnswerText → Option TypedText → Type 0
-IsTyped alone w here words part (explained whys) typed = IsFirst w here part (tries_of alone w.packages here.test words.test whys) typed
+IsTyped alone w here words part (explained whys) typed = IsFirst w here part (tries_of alone w.packages (needs_development here.choice) (needs_development words.choice) whys) typed
 IsTyped alone w here words part (unbuilt message) typed = typed ≡ None
 IsTyped alone w here words part off typed = typed ≡ None
 IsTyped alone w here words part (not_planned message) typed = typed ≡ None
@@ -66,7 +67,7 @@ feature_word None = []
 feature_word (Some feature) = codes " -F " ++ feature
 
 abbrev pub tests_word : Bool → Text
-tests_word test = if test then codes " --tests" else []
+tests_word test = if test then codes " --command test" else []
 
 -- The words as they are typed.
 abbrev pub typed_text : TypedText → Text

@@ -5,6 +5,7 @@ ghost use Rattle.cargo_plans.specs.WordsView.{words_text};
 ghost use Rattle.cargo_plans.specs.plan_steps.PlanViews.{plan_text};
 ghost use Rattle.cargo_workspaces.specs.WorkspaceView.{workspace_text};
 ghost use Rattle.plan_rows.specs.platforms.HeldSpecs.{holds_on};
+ghost use Rattle.plan_words.specs.TargetChoices.{needs_development};
 ghost use Rattle.plan_whys.specs.StepViews.{why_text};
 ghost use Rattle.cargo_plans.specs.Refusals.{is_memory};
 ghost use Rattle.feats_why_not.specs.PartView.{part_text};
@@ -120,7 +121,7 @@ fn small_words<'p>(
     steps: &[WhyStep<'p>],
 ) -> Result<Option<TypedWords<'p>>, AllocError>
     ensures { IfOk result (λ typed. IsFirst (workspace_text base.entry.workspace.now) (words_text holds_on base.entry.words.now) (part_text part.entry)
-        (words_tried base.entry.alone (workspace_text base.entry.workspace.now).packages (words_text holds_on base.entry.words.now).test test (map why_text steps.now)) (option_map typed_value typed)) }
+        (words_tried base.entry.alone (workspace_text base.entry.workspace.now).packages (needs_development (words_text holds_on base.entry.words.now).choice) test (map why_text steps.now)) (option_map typed_value typed)) }
 {
     let tries = tries_of(alloc, base, test, steps)?;
     first_built(alloc, base.workspace, base.words, part, &tries)
@@ -136,7 +137,13 @@ fn words_for<'p>(
     ensures { IfOk result (λ typed. IsTyped base.entry.alone (workspace_text base.entry.workspace.now) (words_text holds_on base.entry.words.now) (words_text holds_on words.now) (part_text about.entry.part) (answer_text about.entry.answer) (option_map typed_value typed)) }
 {
     match about.answer {
-        Answer::Explained(steps) => small_words(alloc, base, words.test, about.part, steps),
+        Answer::Explained(steps) => small_words(
+            alloc,
+            base,
+            words.choice.needs_development(),
+            about.part,
+            steps,
+        ),
         Answer::Unbuilt(_) | Answer::Off | Answer::NotPlanned(_) => Ok(None),
     }
 }

@@ -2,6 +2,7 @@
 ghost use Rattle.std.specs.Prelude.{◌≡◌, ◌++◌, IfOk, OnOk, map, option_map};
 ghost use Rattle.cargo_workspaces.specs.WorkspaceView.{workspace_text};
 ghost use Rattle.feature_labels.specs.Names.{label_of};
+ghost use Rattle.plan_words.specs.TargetChoices.{needs_development, target_choice_text};
 ghost use Rattle.plan_whys.specs.StepViews.{reason_text, spot_text, why_text};
 ghost use Rattle.feats_why.specs.Relations.{is_command_spot};
 ghost use Rattle.feats_why_not.specs.Tries as spec;
@@ -148,8 +149,8 @@ fn by_size<'t>(
     Ok(tries)
 }
 
-/// Returns the words with which `steps` begin, after all that lack some of them. `test` is whether the plan of the steps has tests, and
-/// `here` is whether the command line has them.
+/// Returns the words with which `steps` begin, after all that lack some of them. `test` is whether dependencies for development count in
+/// the plan of the steps, and `here` is whether they do by the command line.
 fn sizes_of<'t>(
     alloc: Global,
     workspace: &'t Workspace<'_>,
@@ -173,10 +174,16 @@ pub(crate) fn tries_of<'t>(
     test: bool,
     steps: &[WhyStep<'t>],
 ) -> Result<Vec<TypedWords<'t>>, AllocError>
-    ensures { IfOk result (λ tries. map typed_value tries.items ≡ spec.tries_of base.entry.alone (workspace_text base.entry.workspace.now).packages base.entry.words.now.test test (map why_text steps.now)) }
+    ensures { IfOk result (λ tries. map typed_value tries.items ≡ spec.tries_of base.entry.alone (workspace_text base.entry.workspace.now).packages (needs_development (target_choice_text base.entry.words.now.choice)) test (map why_text steps.now)) }
 {
     if base.alone {
-        sizes_of(alloc, base.workspace, base.words.test, test, steps)
+        sizes_of(
+            alloc,
+            base.workspace,
+            base.words.choice.needs_development(),
+            test,
+            steps,
+        )
     } else {
         Ok(Vec::new(alloc))
     }

@@ -9,6 +9,7 @@ ghost use Rattle.feats_why_not.specs.inner.Lists.{typed_value};
 
 use cargo_plans::{PackageChoice, PlanWords, Selection};
 use plan_rows::platforms::HeldSpecs;
+use plan_words::choice_of_command;
 use std::alloc::{AllocError, Global};
 use std::slice;
 
@@ -46,7 +47,7 @@ pub(crate) fn words_of<'t, 'n, 's>(
     };
     PlanWords {
         selection,
-        test: typed.test,
+        choice: choice_of_command(typed.test),
         host: words.host,
         targets: words.targets,
     }
@@ -63,12 +64,12 @@ fn push_feature(text: &mut String, typed: TypedWords<'_>) -> Result<(), AllocErr
     Ok(())
 }
 
-/// Appends the word for tests, if `test` is true.
+/// Appends the words for tests, if `test` is true.
 fn push_tests(text: &mut String, test: bool) -> Result<(), AllocError>
     ensures { OnOk result (string_bytes text.new ≡ string_bytes text.old ++ spec.tests_word test) }
 {
     if test {
-        text.push_str(" --tests")?;
+        text.push_str(" --command test")?;
     }
     Ok(())
 }

@@ -1,5 +1,5 @@
 -- The arguments of a command, parsed from the words of a request.
-use Rattle.std.specs.Prelude.{ℕ, List, ◌∷◌, Bool, false, true, Option, None, Some, Result, Ok, Err, flat_map, codes, ok_or, if◌then◌else◌}
+use Rattle.std.specs.Prelude.{ℕ, List, ◌∷◌, Bool, false, true, Option, None, Some, Result, Ok, Err, flat_map, codes, ok_or, if◌then◌else◌, ◌||◌}
 use Rattle.std.specs.Str.{bytes_eq}
 use Rattle.std.specs.Option.{option_map_or}
 use Rattle.clap.specs.Words.{Text}
@@ -11,7 +11,8 @@ use Rattle.feats_words.specs.Edges.{edges}
 use Rattle.feats_words.specs.FeatureWords.{words_in}
 use Rattle.feats_words.specs.PlatformWords.{PlatformText, platform_word}
 use Rattle.feats_words.specs.Refusals.{Refusal, bad_platform, bad_resolver, two_resolvers, bad_format, graph_format, packages_of_every_choice, exclude_alone, each, ◌>>=◌}
-use Rattle.feats_words.specs.Requests.{QuestionText, RequestText, check, dot, report}
+use Rattle.feats_words.specs.Requests.{QuestionText, RequestText, TargetWordsText, check, dot, report}
+use Rattle.feats_words.specs.TargetWords.{is_old, is_test}
 use Rattle.feats_words.specs.declared.command_arguments.Format.{Format}
 use Rattle.feats_words.specs.declared.command_arguments.Format.TheVariants.{Text as text_format, Json as json_format}
 use Rattle.feats_words.specs.declared.edges.Edges.{Edges}
@@ -33,7 +34,10 @@ pub record ArgumentsText : Type 0 where
   pub features : List Text
   pub all_features : Bool
   pub no_default_features : Bool
-  pub tests : Bool
+  -- for the build of `cargo test`; and whether that is because of `--tests` with its old meaning
+  pub test : Bool
+  pub has_old_tests : Bool
+  pub target_words : TargetWordsText
   pub format : Format
   pub depth : Option ℕ
   pub edges : Edges
@@ -97,6 +101,7 @@ arguments r =
     all_members r.question r.packages >>= λ none.
     all_members r.question r.exclude >>= λ kept.
     of_all_members r.workspace r.exclude >>= λ all.
+    is_test r.command >>= λ test.
     Ok (record {
       question = r.question;
       metadata = r.metadata;
@@ -109,7 +114,9 @@ arguments r =
       features = flat_map words_in r.features;
       all_features = r.all_features;
       no_default_features = r.no_default_features;
-      tests = r.tests;
+      test = test || is_old r.command r.target_words;
+      has_old_tests = is_old r.command r.target_words;
+      target_words = r.target_words;
       format = form;
       depth = limit;
       edges = nodes;

@@ -38,11 +38,22 @@ platform_rules =
 abbrev pub feature_rules : List Rule
 feature_rules = lettered_rule (codes "features") 70 ∷ flag_rule (codes "all-features") ∷ flag_rule (codes "no-default-features") ∷ []
 
--- The options that select packages and features, and the form of the answer.
+-- The option for all targets of a kind, and that for names.
+abbrev pub kind_rules : Text → Text → List Rule
+kind_rules all name = flag_rule all ∷ repeated_rule name ∷ []
+
+-- The options that choose targets.
+abbrev pub target_rules : List Rule
+target_rules =
+    (option_rule (codes "command") ∷ flag_rule (codes "lib") ∷ []) ++ kind_rules (codes "bins") (codes "bin")
+    ++ kind_rules (codes "examples") (codes "example") ++ kind_rules (codes "tests") (codes "test") ++ kind_rules (codes "benches") (codes "bench")
+    ++ (flag_rule (codes "all-targets") ∷ [])
+
+-- The options that select packages, features and targets, and the form of the answer.
 abbrev pub selection_rules : List Rule
 selection_rules =
     (lettered_rule (codes "package") 112 ∷ flag_rule (codes "workspace") ∷ repeated_rule (codes "exclude") ∷ []) ++ feature_rules
-    ++ (flag_rule (codes "tests") ∷ option_rule (codes "format") ∷ [])
+    ++ target_rules ++ (option_rule (codes "format") ∷ [])
 
 -- A command about a document, with words of its own.
 abbrev pub command_shape : Text → List Rule → Shape

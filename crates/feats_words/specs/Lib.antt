@@ -4,6 +4,7 @@ pub mod Edges
 pub mod Refusals
 pub mod Commands
 pub mod Requests
+pub mod TargetWords
 pub mod Views
 pub mod FeatureWords
 pub mod PlatformWords

@@ -12,6 +12,7 @@ pub data Refusal : Type 0 where
   graph_format : Refusal
   packages_of_every_choice : Refusal
   exclude_alone : Refusal
+  bad_command : Text → Refusal
   bad_depth : Text → Refusal
   bad_edges : Text → Refusal
   out_of_memory : Refusal
@@ -24,6 +25,7 @@ refusal_of (fault.Format word) = bad_format word.now
 refusal_of fault.GraphFormat = graph_format
 refusal_of fault.PackagesOfEveryChoice = packages_of_every_choice
 refusal_of fault.ExcludeAlone = exclude_alone
+refusal_of (fault.Command word) = bad_command word.now
 refusal_of (fault.Depth word) = bad_depth word.now
 refusal_of (fault.Edges word) = bad_edges word.now
 refusal_of fault.Memory = out_of_memory

@@ -25,6 +25,20 @@ pub data QuestionText : Type 0 where
   check : Text → Bool → Bool → QuestionText
   slim : Option Text → QuestionText
 
+-- The words for targets of one kind: whether the word for all of them is given, as `--bins`, and those for names, as `--bin NAME`.
+pub record KindWordsText : Type 0 where
+  pub all : Bool
+  pub names : List Text
+
+-- The words that choose targets.
+pub record TargetWordsText : Type 0 where
+  pub lib : Bool
+  pub all_targets : Bool
+  pub bins : KindWordsText
+  pub examples : KindWordsText
+  pub tests : KindWordsText
+  pub benches : KindWordsText
+
 -- What a command line asks for.
 pub record RequestText : Type 0 where
   pub question : QuestionText
@@ -41,7 +55,8 @@ pub record RequestText : Type 0 where
   pub features : List Text
   pub all_features : Bool
   pub no_default_features : Bool
-  pub tests : Bool
+  pub command : Option Text
+  pub target_words : TargetWordsText
   pub format : Option Text
   pub depth : Option Text
   pub edges : Option Text
@@ -63,6 +78,19 @@ document rows = unwrap_or (value (codes "metadata") rows) (required_value (codes
 -- Whether an option without a value is given.
 abbrev pub is_given : Text → List Row → Bool
 is_given name rows = option_map_or (λ value. bytes_eq value (codes "true")) (first_of name rows) false
+
+abbrev pub kind_words : Text → Text → List Row → KindWordsText
+kind_words all name rows = record { all = is_given all rows; names = values name rows }
+
+abbrev pub target_words : List Row → TargetWordsText
+target_words rows = record {
+  lib = is_given (codes "lib") rows;
+  all_targets = is_given (codes "all-targets") rows;
+  bins = kind_words (codes "bins") (codes "bin") rows;
+  examples = kind_words (codes "examples") (codes "example") rows;
+  tests = kind_words (codes "tests") (codes "test") rows;
+  benches = kind_words (codes "benches") (codes "bench") rows;
+}
 
 -- The question about what is built. With --report the data of a page is wanted.
 abbrev pub built : List Row → QuestionText
@@ -101,7 +129,8 @@ asked question rows = record {
   features = values (codes "features") rows;
   all_features = is_given (codes "all-features") rows;
   no_default_features = is_given (codes "no-default-features") rows;
-  tests = is_given (codes "tests") rows;
+  command = value (codes "command") rows;
+  target_words = target_words rows;
   format = value (codes "format") rows;
   depth = value (codes "depth") rows;
   edges = value (codes "edges") rows;

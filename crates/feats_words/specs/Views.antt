@@ -1,6 +1,6 @@
 -- The values that Rust's types contain.
 use Rattle.std.specs.Prelude.{map, option_map}
-use Rattle.feats_words.specs.Requests.{QuestionText, RequestText, check, dot, duplicates, list, plan, report, slim, specs, texts, tree, why, why_not}
+use Rattle.feats_words.specs.Requests.{KindWordsText, QuestionText, RequestText, TargetWordsText, check, dot, duplicates, list, plan, report, slim, specs, texts, tree, why, why_not}
 use Rattle.feats_words.specs.Arguments.{ArgumentsText, SourceText, version_given, manifest_at}
 use Rattle.feats_words.specs.PlatformWords.{PlatformText}
 use Rattle.feats_words.specs.declared.command_arguments.CommandArguments.{CommandArguments}
@@ -10,6 +10,8 @@ use Rattle.feats_words.specs.declared.platform_words.PlatformWord.{PlatformWord}
 use Rattle.feats_words.specs.declared.request.Question.{Question}
 use Rattle.feats_words.specs.declared.request.Question.TheVariants as question
 use Rattle.feats_words.specs.declared.request.Request.{Request}
+use Rattle.feats_words.specs.declared.target_words.KindWords.{KindWords}
+use Rattle.feats_words.specs.declared.target_words.TargetWords.{TargetWords}
 
 abbrev pub platform_text : PlatformWord → PlatformText
 platform_text p = record { triple = p.triple.now; path = p.path.now }
@@ -31,6 +33,19 @@ question_text question.Report = report
 question_text (question.Check policy every_choice strict) = check policy.now every_choice strict
 question_text (question.Slim manifests) = slim (option_map (λ t. t.now) manifests)
 
+abbrev pub kind_words_text : KindWords → KindWordsText
+kind_words_text k = record { all = k.all; names = texts k.names.items }
+
+abbrev pub target_words_text : TargetWords → TargetWordsText
+target_words_text t = record {
+  lib = t.lib;
+  all_targets = t.all_targets;
+  bins = kind_words_text t.bins;
+  examples = kind_words_text t.examples;
+  tests = kind_words_text t.tests;
+  benches = kind_words_text t.benches;
+}
+
 abbrev pub arguments_text : CommandArguments → ArgumentsText
 arguments_text a = record {
   question = question_text a.question;
@@ -44,7 +59,9 @@ arguments_text a = record {
   features = texts a.features.items;
   all_features = a.all_features;
   no_default_features = a.no_default_features;
-  tests = a.tests;
+  test = a.test;
+  has_old_tests = a.has_old_tests;
+  target_words = target_words_text a.target_words;
   format = a.format;
   depth = a.depth;
   edges = a.edges;
@@ -66,7 +83,8 @@ request_text r = record {
   features = texts r.features.items;
   all_features = r.all_features;
   no_default_features = r.no_default_features;
-  tests = r.tests;
+  command = option_map (λ t. t.now) r.command;
+  target_words = target_words_text r.target_words;
   format = option_map (λ t. t.now) r.format;
   depth = option_map (λ t. t.now) r.depth;
   edges = option_map (λ t. t.now) r.edges;

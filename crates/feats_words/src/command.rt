@@ -1,6 +1,6 @@
 //! The commands of the program and their options, as `clap` knows them.
 ghost use Rattle.std.specs.Prelude.{◌≡◌, ◌++◌, ◌∷◌, [], codes, false, IfOk};
-ghost use Rattle.clap.specs.Words.{App, Rule, Shape, app_of, new_app, rule_of, with_subcommand};
+ghost use Rattle.clap.specs.Words.{App, Shape, app_of, new_app, rule_of, with_subcommand};
 ghost use Rattle.feats_words.specs.Commands as spec;
 ghost use Rattle.feats_words.specs.inner.Building.{IsMade, alone, with_rules};
 
@@ -9,25 +9,11 @@ use crate::examples::{
     LIST_EXAMPLE, PLAN_EXAMPLE, REPORT_EXAMPLE, RESOLVER_HELP, SLIM_EXAMPLE, SPECS_EXAMPLE,
     TREE_EXAMPLE, WHY_EXAMPLE, WHY_FEATURE_HELP, WHY_NOT_EXAMPLE,
 };
+use crate::making::{Made, with_arg};
 use crate::options::{edges, flag, lettered, option, repeated, report_flag, required, short, word};
+use crate::target_options::with_targets;
 use clap::{Arg, Command};
 use std::alloc::{AllocError, Global};
-
-/// A command in the making, or the error of an allocation. The functions below take it whole: a function that returns early past a
-/// `Command` of its own takes ten seconds of proof for each.
-type Made<'a> = Result<Command<'a>, AllocError>;
-
-/// Adds `arg` to `command`.
-#[tactic(auto, using(crate::proofs::Building::with_one))]
-fn with_arg<'a>(command: Made<'a>, arg: Arg<'a>) -> Made<'a>
-    requires { arg.global ≡ false }
-    ensures { (app : App) (rule : Rule) → rule_of arg.entry ≡ rule → IfOk command.entry (λ c. IsMade c app) → IfOk result (λ r. IsMade r (with_rules app (rule ∷ []))) }
-{
-    match command {
-        Ok(command) => command.arg(arg),
-        Err(error) => Err(error),
-    }
-}
 
 /// Returns `command` with the options for platforms and for the resolver. `resolver_help` is the help of `--resolver`.
 fn with_platforms<'a>(alloc: Global, command: Made<'a>, resolver_help: &'a str) -> Made<'a>
@@ -109,7 +95,7 @@ fn format<'a>(alloc: Global, is_hidden: bool) -> Arg<'a>
     .hide(is_hidden)
 }
 
-/// Adds the options that select packages and features, and the form of the answer.
+/// Adds the options that select packages, features and targets, and the form of the answer.
 fn with_selection<'a>(alloc: Global, command: Made<'a>, hides_format: bool) -> Made<'a>
     ensures { (app : App) → IfOk command.entry (λ c. IsMade c app) → IfOk result (λ r. IsMade r (with_rules app spec.selection_rules)) }
 {
@@ -137,7 +123,7 @@ fn with_selection<'a>(alloc: Global, command: Made<'a>, hides_format: bool) -> M
         ),
     );
     let command = with_features(alloc, command);
-    let command = with_arg(command, flag(alloc, "tests", "Build the tests too"));
+    let command = with_targets(alloc, command);
     with_arg(command, format(alloc, hides_format))
 }
 

@@ -11,6 +11,7 @@ use crate::fault::WordsFault;
 use crate::platform_words::{PlatformWord, platform_word};
 use crate::request::{Question, Request};
 use crate::splitting::feature_words;
+use crate::target_words::{TargetWords, is_old, is_test};
 use cargo_manifests::resolvers::Resolver;
 use std::alloc::Global;
 
@@ -45,7 +46,11 @@ pub struct CommandArguments<'a> {
     pub features: Vec<&'a str>,
     pub all_features: bool,
     pub no_default_features: bool,
-    pub tests: bool,
+    /// True for the build of `cargo test`.
+    pub test: bool,
+    /// True if it is that build because of `--tests` with its old meaning.
+    pub has_old_tests: bool,
+    pub target_words: TargetWords<'a>,
     pub format: Format,
     /// How deep a tree is; `None` without the word.
     pub depth: Option<usize>,
@@ -68,7 +73,9 @@ impl Drop for CommandArguments<'_> {
             features: _features,
             all_features: _all_features,
             no_default_features: _no_default_features,
-            tests: _tests,
+            test: _test,
+            has_old_tests: _has_old_tests,
+            target_words: _target_words,
             format: _format,
             depth: _depth,
             edges: _edges,
@@ -181,7 +188,8 @@ fn of_all_members<'a>(workspace: bool, exclude: &[&str]) -> Result<(), WordsFaul
 }
 
 /// Returns the arguments of a request. The error is the first word that can't be read: of the host, of the targets, of the resolver, of
-/// the format, of the depth, of the edges; `PackagesOfEveryChoice`; `ExcludeAlone`; or `Memory`.
+/// the format, of the depth, of the edges; `PackagesOfEveryChoice`; `ExcludeAlone`; `Command`; or
+/// `Memory`.
 pub fn arguments<'a>(
     alloc: Global,
     request: Request<'a>,
@@ -197,6 +205,8 @@ pub fn arguments<'a>(
     all_members(request.question, &request.packages)?;
     all_members(request.question, &request.exclude)?;
     of_all_members(request.workspace, &request.exclude)?;
+    let test = is_test(request.command)?;
+    let has_old_tests = is_old(request.command, &request.target_words);
     let features = feature_words(alloc, &request.features)?;
     Ok(CommandArguments {
         question: request.question,
@@ -210,7 +220,9 @@ pub fn arguments<'a>(
         features,
         all_features: request.all_features,
         no_default_features: request.no_default_features,
-        tests: request.tests,
+        test: test || has_old_tests,
+        has_old_tests,
+        target_words: request.target_words,
         format,
         depth,
         edges,

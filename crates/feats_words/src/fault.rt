@@ -20,6 +20,8 @@ pub enum WordsFault<'a> {
     PackagesOfEveryChoice,
     /// `--exclude` is given without `--workspace`, which it needs.
     ExcludeAlone,
+    /// The word is neither `build` nor `test`.
+    Command(&'a str),
     /// The word isn't a decimal number.
     Depth(&'a str),
     /// The word is neither `packages` nor `features`.

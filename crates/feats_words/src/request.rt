@@ -7,6 +7,8 @@ ghost use Rattle.feats_words.specs.Requests.{texts};
 ghost use Rattle.feats_words.specs.Views.{question_text, request_text};
 
 use crate::command::feats_command;
+use crate::target_words::{TargetWords, copied_words, target_words};
+use crate::values::{copied, is_given, values};
 use clap::{ArgMatches, Error};
 use std::alloc::{AllocError, Global};
 
@@ -77,7 +79,9 @@ pub struct Request<'a> {
     pub features: Vec<&'a str>,
     pub all_features: bool,
     pub no_default_features: bool,
-    pub tests: bool,
+    /// The command of cargo whose build is asked for.
+    pub command: Option<&'a str>,
+    pub target_words: TargetWords<'a>,
     pub format: Option<&'a str>,
     /// How deep a tree is.
     pub depth: Option<&'a str>,
@@ -109,39 +113,6 @@ fn document<'a>(matches: &ArgMatches<'a>) -> &'a str
     match value(matches, "metadata") {
         Some(path) => path,
         None => required_value(matches, "old"),
-    }
-}
-
-/// Returns a list of the texts of `given`.
-fn copied<'a>(alloc: Global, given: &[&'a str]) -> Result<Vec<&'a str>, AllocError>
-    ensures { IfOk result (λ copies. texts copies.items ≡ texts given.now) }
-{
-    let mut copies = Vec::new(alloc);
-    copies.extend_from_slice(given)?;
-    Ok(copies)
-}
-
-/// Returns the values of an option.
-fn values<'a>(
-    alloc: Global,
-    matches: &ArgMatches<'a>,
-    name: &str,
-) -> Result<Vec<&'a str>, AllocError>
-    ensures { IfOk result (λ values. texts values.items ≡ spec.values name.now (rows_of (found_of matches.now))) }
-{
-    match matches.get_strs(name) {
-        Some(values) => copied(alloc, values),
-        None => Ok(Vec::new(alloc)),
-    }
-}
-
-/// Returns whether an option without a value is given.
-fn is_given(matches: &ArgMatches<'_>, name: &str) -> bool
-    ensures { result ≡ spec.is_given name.now (rows_of (found_of matches.now)) }
-{
-    match matches.get_str(name) {
-        Some(value) => value == "true",
-        None => false,
     }
 }
 
@@ -213,7 +184,8 @@ fn asked<'a>(
         features: values(alloc, matches, "features")?,
         all_features: is_given(matches, "all-features"),
         no_default_features: is_given(matches, "no-default-features"),
-        tests: is_given(matches, "tests"),
+        command: value(matches, "command"),
+        target_words: target_words(alloc, matches)?,
         format: value(matches, "format"),
         depth: value(matches, "depth"),
         edges: value(matches, "edges"),
@@ -244,7 +216,8 @@ pub fn document_request<'a>(
         features: copied(alloc, &request.features)?,
         all_features: request.all_features,
         no_default_features: request.no_default_features,
-        tests: request.tests,
+        command: request.command,
+        target_words: copied_words(alloc, &request.target_words)?,
         format: request.format,
         depth: request.depth,
         edges: request.edges,

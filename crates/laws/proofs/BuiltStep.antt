@@ -227,16 +227,16 @@ module _ (w : WorkspaceText) (is : IsWorkspace w) (P : ℕ → Bool) (follows : 
         let m = member_any (λ n. n == p) selected h in
         subst (λ z. IsTrue (P z)) (eqb-true m.element p m.passes) (chosen m.element m.member)
 
-    started_in : (macros : Bool) (p : ℕ) → slice_get (started r selected macros) p ≡ Some true → IsTrue (P p)
+    started_in : (macros : Bool) (p : ℕ) → slice_get (started r selected false macros) p ≡ Some true → IsTrue (P p)
     started_in macros p h =
-        let e = each_back (λ p x. is_among selected p && builds r macros p x) 0 r.packages p true h in
-        let parts = both_true (is_among selected (0 + p)) (builds r macros (0 + p) e.item) e.is in
+        let e = each_back (λ p x. is_among selected p && builds r false macros p x) 0 r.packages p true h in
+        let parts = both_true (is_among selected (0 + p)) (builds r false macros (0 + p) e.item) e.is in
         subst (λ z. IsTrue (P z)) (zero_plus p) (among (0 + p) parts.0)
 
     hosts_in : (p : ℕ) → slice_get (starts_of r selected).hosts p ≡ Some true → IsTrue (P p)
     hosts_in p h =
-        let ms = started r selected true in
-        let os = started r selected false in
+        let ms = started r selected false true in
+        let os = started r selected false false in
         let e = each_back (starts_on_host ms os) 0 r.packages p true h in
         subst (λ z. IsTrue (P z)) (zero_plus p)
         (⊎_elim
@@ -277,10 +277,10 @@ module _ (w : WorkspaceText) (is : IsWorkspace w) (P : ℕ → Bool) (follows : 
         flagged : (m : ℕ) → slice_get ((starts_of r selected).hosts ++ times targets (starts_of r selected).others) m ≡ Some true → IsTrue (in_place m)
         flagged m i =
             let st = starts_of r selected in
-            let ms = started r selected true in
-            let os = started r selected false in
+            let ms = started r selected false true in
+            let os = started r selected false false in
             let host_long : length st.hosts ≡ count = flags_long st.hosts (starts_on_host ms os) refl in
-            let other_long : length st.others ≡ count = flags_long st.others (λ p x. is_among selected p && builds r false p x) refl in
+            let other_long : length st.others ≡ count = flags_long st.others (λ p x. is_among selected p && builds r false false p x) refl in
             ⊎_elim
             (λ k. let below : m < count = subst (λ z. m < z) host_long (slice_get_within st.hosts m true k) in subst (λ z. IsTrue (in_place z)) (first_number m) (at_entry 0 m below ∙ hosts_in m k))
             (λ k. subst (λ z. IsTrue (in_place z)) (rest_number k.0 m (length st.hosts) host_long k.1) (times_in targets 1 st.others other_long (started_in false) k.0 k.2))

@@ -23,7 +23,7 @@ unfolding starts_by
 starts_are w s selected kept on = refl
 
 visit_is : (w : WorkspaceText) (s : SettingsText) (on : PairVisit) (from : Starts) (built : Visit) → IsBuiltFrom w s on from built
-    → IsVisitOf (rows_of (built_entries w s (turned_on on) (flag_at (dev_flags s.test (length s.targets) from)))) (start_places (length s.targets) from) built
+    → IsVisitOf (rows_of (built_entries w s (turned_on on) (flag_at (dev_flags (length s.targets) from)))) (start_places (length s.targets) from) built
 unfolding IsBuiltFrom
 visit_is w s on from built h = h
 
@@ -48,5 +48,5 @@ plans_follow w s selected plan is made P follows chosen u h =
     let from = starts_by w s selected made.kept made.on in
     let visit = visit_is w s made.on from plan.built built.is_built in
     let begins = subst (λ z. (x : ℕ × LabelName) → Contains (start_places (length s.targets) z) x → IsTrue (in_place w is P follows x.0)) (sym (starts_are w s selected made.kept made.on)) (starts_in w is P follows rules refl selected chosen (length s.targets)) in
-    let reached = reached_follows w is P follows s made.on (flag_at (dev_flags s.test (length s.targets) from)) (start_places (length s.targets) from) plan.built begins visit in
+    let reached = reached_follows w is P follows s made.on (flag_at (dev_flags (length s.targets) from)) (start_places (length s.targets) from) plan.built begins visit in
     units_in w is P follows made.on plan.built reached s.split (length s.targets) u (subst (λ z. Contains z u) built.are_units h)

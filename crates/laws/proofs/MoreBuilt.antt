@@ -9,12 +9,12 @@ use Rattle.std.proofs.lemmas.Nat.{mod-mul-add}
 use Rattle.guppy_packages.specs.Items.{Item, feature_item, optional_item, slash_item, item_of}
 use Rattle.feature_labels.specs.Names.{LabelName}
 use Rattle.feature_labels.specs.Names.LabelName.{named}
-use Rattle.cargo_workspaces.specs.Workspaces.{DeclarationText, FeatureText, IsPackage, IsWorkspace, PackageText, TargetText, Text, WorkspaceText, both_lead_to, has_script, is_macro_target, is_proc_macro}
+use Rattle.cargo_workspaces.specs.Workspaces.{DeclarationText, FeatureText, IsPackage, IsWorkspace, PackageText, TargetText, Text, WorkspaceText, both_lead_to, has_script, is_proc_macro}
 use Rattle.feature_core.proofs.AddsLemmas.{Contains-none}
 use Rattle.feature_core.proofs.Places.{get_cases, get_left, get_right}
 use Rattle.plan_rows.specs.Commands.{is_started}
 use Rattle.plan_rows.specs.Steps as steps
-use Rattle.plan_rows.specs.Steps.{SettingsText, is_macro}
+use Rattle.plan_rows.specs.Steps.{SettingsText}
 use Rattle.plan_rows.specs.Tables.{Entry, flag_at}
 use Rattle.plan_rows.specs.declared.side.Side.{Side}
 use Rattle.plan_rows.specs.declared.side.Side.TheVariants.{Target}
@@ -22,7 +22,8 @@ use Rattle.plan_rows.proofs.EntryLemmas.{length-each_from}
 use Rattle.plan_rows.proofs.EntryRules.{number_is}
 use Rattle.cargo_plans.specs.plan_starts.PackageVisits.{PairVisit, is_kept, is_on}
 use Rattle.cargo_plans.specs.plan_starts.Starts.{dev_flags, is_among, start_flags, start_places, started, starts_of, starts_on_host, times}
-use Rattle.cargo_plans.specs.plan_starts.Targets.{TargetRules, builds, counts, counts_for, is_built, is_chosen, is_followed, is_of, leads_on}
+use Rattle.cargo_plans.specs.plan_starts.Targets.{TargetRules, builds, counts, counts_for, has_macro, is_built, is_followed, is_of, is_start, leads_on}
+use Rattle.plan_words.specs.TargetChoices.{is_chosen}
 use Rattle.laws.specs.plans.Growth.{CommandsGrow, with_commands}
 use Rattle.laws.specs.plans.Laws.{AreAmong}
 use Rattle.laws.proofs.BuiltStep.{all_place, entries_within}
@@ -193,9 +194,9 @@ module _ (w : WorkspaceText) (is : IsWorkspace w) (s : SettingsText) (commands :
   leads_more : (feature : Text) (d : DeclarationText) → leads_on rules feature d ≡ true → leads_on others feature d ≡ true
   leads_more feature d h = go d.leads_to h
     where
-      go : (q : Option ℕ) → option_map_or (λ q. is_on o (steps.lands s.split d (is_macro w.packages q) Target) q (named feature)) q false ≡ true → option_map_or (λ q. is_on l (steps.lands s.split d (is_macro w.packages q) Target) q (named feature)) q false ≡ true
+      go : (q : Option ℕ) → option_map_or (λ q. is_on o (steps.lands s.split d (has_macro w.packages q) Target) q (named feature)) q false ≡ true → option_map_or (λ q. is_on l (steps.lands s.split d (has_macro w.packages q) Target) q (named feature)) q false ≡ true
       go None i = cc
-      go (Some q) i = on_more (steps.lands s.split d (is_macro w.packages q) Target) q (named feature) i
+      go (Some q) i = on_more (steps.lands s.split d (has_macro w.packages q) Target) q (named feature) i
 
   abbrev met : TargetRules → ℕ → PackageText → Text → Item → Bool
   met r p x need item = elim item [
@@ -226,50 +227,48 @@ module _ (w : WorkspaceText) (is : IsWorkspace w) (s : SettingsText) (commands :
 
   target_more : (p : ℕ) (x : PackageText) (t : TargetText) → is_built rules p x t ≡ true → is_built others p x t ≡ true
   target_more p x t h =
-      let parts = both_true (is_chosen s.test t) (list_all (λ need. met rules p x need (item_of need)) t.required_features) h in
-      two_true (is_chosen s.test t) (list_all (λ need. met others p x need (item_of need)) t.required_features) parts.0
+      let parts = both_true (is_chosen s.choice t) (list_all (λ need. met rules p x need (item_of need)) t.required_features) h in
+      two_true (is_chosen s.choice t) (list_all (λ need. met others p x need (item_of need)) t.required_features) parts.0
       (all_weaker (λ need. met rules p x need (item_of need)) (λ need. met others p x need (item_of need)) t.required_features (λ need. met_more p x need (item_of need)) parts.1)
 
-  builds_more : (macros : Bool) (p : ℕ) (x : PackageText) → builds rules macros p x ≡ true → builds others macros p x ≡ true
-  builds_more true p x h = any_weaker (λ t. is_macro_target t && is_built rules p x t) (λ t. is_macro_target t && is_built others p x t) x.targets
-      (λ t i. let q = both_true (is_macro_target t) (is_built rules p x t) i in two_true (is_macro_target t) (is_built others p x t) q.0 (target_more p x t q.1)) h
-  builds_more false p x h = any_weaker (λ t. not (is_macro_target t) && is_built rules p x t) (λ t. not (is_macro_target t) && is_built others p x t) x.targets
-      (λ t i. let q = both_true (not (is_macro_target t)) (is_built rules p x t) i in two_true (not (is_macro_target t)) (is_built others p x t) q.0 (target_more p x t q.1)) h
+  builds_more : (dev macros : Bool) (p : ℕ) (x : PackageText) → builds rules dev macros p x ≡ true → builds others dev macros p x ≡ true
+  builds_more dev macros p x h = any_weaker (λ t. is_start s.choice dev macros t && is_built rules p x t) (λ t. is_start s.choice dev macros t && is_built others p x t) x.targets
+      (λ t i. let q = both_true (is_start s.choice dev macros t) (is_built rules p x t) i in two_true (is_start s.choice dev macros t) (is_built others p x t) q.0 (target_more p x t q.1)) h
 
   module _ (selected larger : List ℕ) (among : (p : ℕ) → Contains selected p → Contains larger p) where
     among_more : (p : ℕ) → is_among selected p ≡ true → is_among larger p ≡ true
     among_more p h = let m = member_any (λ n. n == p) selected h in any_member (λ n. n == p) larger m.element (among m.element m.member) m.passes
 
-    abbrev flagged : TargetRules → List ℕ → Bool → ℕ → PackageText → Bool
-    flagged r numbers macros p x = is_among numbers p && builds r macros p x
+    abbrev flagged : TargetRules → List ℕ → Bool → Bool → ℕ → PackageText → Bool
+    flagged r numbers dev macros p x = is_among numbers p && builds r dev macros p x
 
-    started_grows : (macros : Bool) → Grows (started rules selected macros) (started others larger macros)
-    started_grows macros = grows-each (flagged rules selected macros) (flagged others larger macros)
-        (λ p x h. let q = both_true (is_among selected p) (builds rules macros p x) h in two_true (is_among larger p) (builds others macros p x) (among_more p q.0) (builds_more macros p x q.1)) 0 w.packages
+    started_grows : (dev macros : Bool) → Grows (started rules selected dev macros) (started others larger dev macros)
+    started_grows dev macros = grows-each (flagged rules selected dev macros) (flagged others larger dev macros)
+        (λ p x h. let q = both_true (is_among selected p) (builds rules dev macros p x) h in two_true (is_among larger p) (builds others dev macros p x) (among_more p q.0) (builds_more dev macros p x q.1)) 0 w.packages
 
-    started_long : (macros : Bool) → length (started rules selected macros) ≡ length (started others larger macros)
-    started_long macros = same_long (flagged rules selected macros) (flagged others larger macros) 0 w.packages
+    started_long : (dev macros : Bool) → length (started rules selected dev macros) ≡ length (started others larger dev macros)
+    started_long dev macros = same_long (flagged rules selected dev macros) (flagged others larger dev macros) 0 w.packages
 
     abbrev hosted : TargetRules → List ℕ → ℕ → PackageText → Bool
-    hosted r numbers = starts_on_host (started r numbers true) (started r numbers false)
+    hosted r numbers = starts_on_host (started r numbers false true) (started r numbers false false)
 
     hosts_grow : Grows (starts_of rules selected).hosts (starts_of others larger).hosts
     hosts_grow = grows-each (hosted rules selected) (hosted others larger)
-        (λ p x. host_more (flag_at (started rules selected true) p) (flag_at (started others larger true) p) (flag_at (started rules selected false) p) (flag_at (started others larger false) p) (is_proc_macro x)
-        (grows-flag (started rules selected true) (started others larger true) (started_grows true) p)
-        (grows-flag (started rules selected false) (started others larger false) (started_grows false) p)) 0 w.packages
+        (λ p x. host_more (flag_at (started rules selected false true) p) (flag_at (started others larger false true) p) (flag_at (started rules selected false false) p) (flag_at (started others larger false false) p) (is_proc_macro x)
+        (grows-flag (started rules selected false true) (started others larger false true) (started_grows false true) p)
+        (grows-flag (started rules selected false false) (started others larger false false) (started_grows false false) p)) 0 w.packages
 
     pub places_grow : (targets : ℕ) → AreAmong (start_places targets (starts_of rules selected)) (start_places targets (starts_of others larger))
     places_grow targets =
         let a = starts_of rules selected in
         let b = starts_of others larger in
         bases_more 0 (start_flags targets a) (start_flags targets b)
-        (grows-append a.hosts b.hosts (times targets a.others) (times targets b.others) (same_long (hosted rules selected) (hosted others larger) 0 w.packages) hosts_grow (grows-times targets a.others b.others (started_long false) (started_grows false)))
+        (grows-append a.hosts b.hosts (times targets a.others) (times targets b.others) (same_long (hosted rules selected) (hosted others larger) 0 w.packages) hosts_grow (grows-times targets a.others b.others (started_long false false) (started_grows false false)))
 
-    pub devs_grow : (test : Bool) (targets : ℕ) (m : ℕ) → flag_at (dev_flags test targets (starts_of rules selected)) m ≡ true → flag_at (dev_flags test targets (starts_of others larger)) m ≡ true
-    devs_grow true targets m h =
+    pub devs_grow : (targets : ℕ) (m : ℕ) → flag_at (dev_flags targets (starts_of rules selected)) m ≡ true → flag_at (dev_flags targets (starts_of others larger)) m ≡ true
+    devs_grow targets m h =
         let a = starts_of rules selected in
         let b = starts_of others larger in
-        grows-flag (a.macros ++ times targets a.others) (b.macros ++ times targets b.others)
-        (grows-append a.macros b.macros (times targets a.others) (times targets b.others) (started_long true) (started_grows true) (grows-times targets a.others b.others (started_long false) (started_grows false))) m h
-    devs_grow false targets m h = absurd (cc)
+        grows-flag (a.dev_macros ++ times targets a.dev_others) (b.dev_macros ++ times targets b.dev_others)
+        (grows-append a.dev_macros b.dev_macros (times targets a.dev_others) (times targets b.dev_others) (started_long true true) (started_grows true true)
+        (grows-times targets a.dev_others b.dev_others (started_long true false) (started_grows true false))) m h

@@ -84,16 +84,16 @@ module _ (w : WorkspaceText) (is : IsWorkspace w) (s : SettingsText) (commands :
   more = with_commands s commands
 
   pub commands_alone : SettingsGrow w s more
-  commands_alone = record { split = refl; test = λ h. h; commands = grow; host = λ x c d i h. h; targets = λ x c d i h. h }
+  commands_alone = record { split = refl; development = λ h. h; commands = grow; host = λ x c d i h. h; targets = λ x c d i h. h }
 
   built_reached : (o l : PairVisit) (f g : Starts) (u v : Visit) → ((side : Side) (p : ℕ) (name : Text) → turned_on o side p name ≡ true → turned_on l side p name ≡ true)
-      → ((m : ℕ) → flag_at (dev_flags s.test (length s.targets) f) m ≡ true → flag_at (dev_flags s.test (length s.targets) g) m ≡ true) → AreAmong (start_places (length s.targets) f) (start_places (length s.targets) g)
-      → IsVisitOf (rows_of (built_entries w s (turned_on o) (flag_at (dev_flags s.test (length s.targets) f)))) (start_places (length s.targets) f) u
-      → IsVisitOf (rows_of (built_entries w more (turned_on l) (flag_at (dev_flags s.test (length s.targets) g)))) (start_places (length s.targets) g) v
+      → ((m : ℕ) → flag_at (dev_flags (length s.targets) f) m ≡ true → flag_at (dev_flags (length s.targets) g) m ≡ true) → AreAmong (start_places (length s.targets) f) (start_places (length s.targets) g)
+      → IsVisitOf (rows_of (built_entries w s (turned_on o) (flag_at (dev_flags (length s.targets) f)))) (start_places (length s.targets) f) u
+      → IsVisitOf (rows_of (built_entries w more (turned_on l) (flag_at (dev_flags (length s.targets) g)))) (start_places (length s.targets) g) v
       → (k : ℕ) → reaches u k base ≡ true → reaches v k base ≡ true
   built_reached o l f g u v turned devs among a b k =
-      let dev = flag_at (dev_flags s.test (length s.targets) f) in
-      let other = flag_at (dev_flags s.test (length s.targets) g) in
+      let dev = flag_at (dev_flags (length s.targets) f) in
+      let other = flag_at (dev_flags (length s.targets) g) in
       visit_more (built_entries w s (turned_on o) dev) (built_entries w more (turned_on l) other) (built_within w is s (turned_on o) dev) (built_within w is more (turned_on l) other)
       (built_more w is s commands (turned_on o) (turned_on l) turned dev other devs) (start_places (length s.targets) f) (start_places (length s.targets) g) among u v a b k base
 
@@ -108,9 +108,9 @@ more_turns_nothing_off w s commands selected larger p q is grow among a b u h =
     let y = b.holds.2 in
     let rules : TargetRules = record { settings = s; packages = w.packages; kept = a.kept; on = a.on } in
     let others : TargetRules = record { settings = more_s; packages = w.packages; kept = b.kept; on = b.on } in
-    let left = subst (λ z. IsVisitOf (rows_of (built_entries w s (turned_on a.on) (flag_at (dev_flags s.test n z)))) (start_places n z) p.built) (starts_are w s selected a.kept a.on) (built_is w s a.on (starts_by w s selected a.kept a.on) p.built x.is_built) in
-    let right = subst (λ z. IsVisitOf (rows_of (built_entries w more_s (turned_on b.on) (flag_at (dev_flags s.test n z)))) (start_places n z) q.built) (starts_are w more_s larger b.kept b.on) (built_is w more_s b.on (starts_by w more_s larger b.kept b.on) q.built y.is_built) in
+    let left = subst (λ z. IsVisitOf (rows_of (built_entries w s (turned_on a.on) (flag_at (dev_flags n z)))) (start_places n z) p.built) (starts_are w s selected a.kept a.on) (built_is w s a.on (starts_by w s selected a.kept a.on) p.built x.is_built) in
+    let right = subst (λ z. IsVisitOf (rows_of (built_entries w more_s (turned_on b.on) (flag_at (dev_flags n z)))) (start_places n z) q.built) (starts_are w more_s larger b.kept b.on) (built_is w more_s b.on (starts_by w more_s larger b.kept b.on) q.built y.is_built) in
     let reached = built_reached w is s commands grow a.on b.on (starts_of rules selected) (starts_of others larger) p.built q.built (λ side p name. on side p (optional name))
-    (devs_grow w is s commands grow a.kept b.kept a.on b.on kept on selected larger among s.test n) (places_grow w is s commands grow a.kept b.kept a.on b.on kept on selected larger among n) left right in
+    (devs_grow w is s commands grow a.kept b.kept a.on b.on kept on selected larger among n) (places_grow w is s commands grow a.kept b.kept a.on b.on kept on selected larger among n) left right in
     let r = units_there a.on b.on p.built q.built on reached w.packages s.split n u (subst (λ z. Contains z u) x.are_units h) in
     (r.0, subst (λ z. Contains z r.0) (sym y.are_units) r.1, r.2, r.3, r.4)

@@ -7,6 +7,7 @@ use Rattle.std.proofs.lemmas.Nat.{mod-mul-add}
 use Rattle.cargo_workspaces.specs.Workspaces.{DeclarationText, FeatureText, IsPackage, IsWorkspace, PackageText, Text, WorkspaceText, is_proc_macro}
 use Rattle.feature_core.proofs.AddsLemmas.{Contains-cases, Contains-first, Contains-none, element_at_place}
 use Rattle.feature_core.proofs.Places.{get_cases, get_left, get_right}
+use Rattle.plan_words.specs.TargetChoices.{needs_development}
 use Rattle.plan_rows.specs.Commands.{command_of, is_started}
 use Rattle.plan_rows.specs.Steps as steps
 use Rattle.plan_rows.specs.Steps.{SettingsText}
@@ -168,14 +169,14 @@ module _ (w : WorkspaceText) (is : IsWorkspace w) where
     admitted_more : (x : PackageText) (d : DeclarationText) → Contains w.packages x → Contains x.declarations d → (p : ℕ) (side : Side) → steps.admitted s kept p side d ≡ true → steps.admitted t others p side d ≡ true
     admitted_more x d of_w of_x p side h =
         let dev = not (steps.is_development d.kind) in
-        let parts = both_true ((not d.optional || kept p d.name) && (dev || is_started s.commands p && (s.test || not s.split))) (not s.split || steps.applies_on s.host s.targets side d) h in
-        let pair = both_true (not d.optional || kept p d.name) (dev || is_started s.commands p && (s.test || not s.split)) parts.0 in
-        two_true ((not d.optional || others p d.name) && (dev || is_started t.commands p && (t.test || not t.split))) (not t.split || steps.applies_on t.host t.targets side d)
-        (two_true (not d.optional || others p d.name) (dev || is_started t.commands p && (t.test || not t.split))
+        let parts = both_true ((not d.optional || kept p d.name) && (dev || is_started s.commands p && ((needs_development s.choice) || not s.split))) (not s.split || steps.applies_on s.host s.targets side d) h in
+        let pair = both_true (not d.optional || kept p d.name) (dev || is_started s.commands p && ((needs_development s.choice) || not s.split)) parts.0 in
+        two_true ((not d.optional || others p d.name) && (dev || is_started t.commands p && ((needs_development t.choice) || not t.split))) (not t.split || steps.applies_on t.host t.targets side d)
+        (two_true (not d.optional || others p d.name) (dev || is_started t.commands p && ((needs_development t.choice) || not t.split))
         (or_more (not d.optional) (kept p d.name) (others p d.name) (kept_more p d.name) pair.0)
-        (or_more dev (is_started s.commands p && (s.test || not s.split)) (is_started t.commands p && (t.test || not t.split))
-        (and_more (is_started s.commands p) (is_started t.commands p) (s.test || not s.split) (t.test || not t.split) (started_more w is s t.commands grow.commands p)
-        (either_more s.test (not s.split) t.test (not t.split) grow.test unsplit)) pair.1))
+        (or_more dev (is_started s.commands p && ((needs_development s.choice) || not s.split)) (is_started t.commands p && ((needs_development t.choice) || not t.split))
+        (and_more (is_started s.commands p) (is_started t.commands p) ((needs_development s.choice) || not s.split) ((needs_development t.choice) || not t.split) (started_more w is s t.commands grow.commands p)
+        (either_more (needs_development s.choice) (not s.split) (needs_development t.choice) (not t.split) grow.development unsplit)) pair.1))
         (either_more (not s.split) (steps.applies_on s.host s.targets side d) (not t.split) (steps.applies_on t.host t.targets side d) unsplit (holds_more x d of_w of_x (steps.is_build d.kind || steps.is_host side)) parts.1)
 
     lead_more : (x : PackageText) (d : DeclarationText) → Contains w.packages x → Contains x.declarations d → (p : ℕ) (side : Side) (q n : ℕ) → steps.on_lead macros s kept side p d q ≡ Some n → steps.on_lead macros t others side p d q ≡ Some n

@@ -26,7 +26,7 @@ applies w every each x c d i = go d.platform refl
 together_widest : (w : WorkspaceText) (words : WordsText) (every : Text → Bool) → HoldsEach w every → IsWidest w (widened every widening.Together words)
 together_widest w words every each = record {
   selection = refl;
-  test = refl;
+  development = refl;
   host = λ x c d i. applies w every each x c d i;
   targets = λ x c d i. left_true (admits every d.platform) false (applies w every each x c d i);
 }

@@ -13,11 +13,12 @@ use Rattle.plan_rows.specs.declared.side.Side.TheVariants.{Target, Host}
 use Rattle.cargo_plans.specs.plan_starts.Lists.{first_from, first_some}
 use Rattle.cargo_plans.specs.plan_starts.PackageVisits.{PairVisit, reaches_at}
 use Rattle.cargo_plans.specs.plan_starts.Starts.{Starts}
+use Rattle.cargo_plans.specs.plan_starts.UnfitWords.{unfit_text}
 use Rattle.cargo_plans.specs.plan_units.Lacking.{absent_of, is_absent}
 use Rattle.plan_words.specs.Choices.{ChosenText}
 use Rattle.plan_words.specs.Refusals.{Refusal, refusal_of}
 use Rattle.cargo_plans.specs.plan_steps.PlanViews.{IsRefused}
-use Rattle.cargo_plans.specs.plan_steps.Plans.{IsPlan, PlanText, lacks, not_on, starts_by, without_tests}
+use Rattle.cargo_plans.specs.plan_steps.Plans.{IsPlan, PlanText, lacks, not_on, starts_by, without_targets, without_tests}
 use Rattle.cargo_plans.specs.declared.plan_steps.fault.StepFault.{StepFault}
 use Rattle.cargo_plans.specs.declared.plan_steps.fault.StepFault.TheVariants as step
 use Rattle.cargo_plans.specs.Plans.{AfterWords, IsPlanOf, WordsText, settings_by}
@@ -54,21 +55,27 @@ some_none : {X : Type 0} (o p : Option X) (x : X) → o ≡ p → o ≡ None →
 some_none o p x same none some = let clash : ◌≡◌ {A = Option _} None (Some x) = sym none ∙ same ∙ some in cc
 
 module _ (one : VisitsAgree) (w : WorkspaceText) (s : SettingsText) (selected : List ℕ) where
+  same_from : (k j o m : PairVisit) → ◌≡◌ {A = Test} (reaches_at k) (reaches_at j) → ◌≡◌ {A = Test} (reaches_at o) (reaches_at m) → starts_by w s selected k o ≡ starts_by w s selected j m
+  same_from k j o m kept on = starts_are w s selected k o ∙ same_starts s w.packages selected k j o m kept on ∙ sym (starts_are w s selected j m)
+
   same_not_on : (k j o m : PairVisit) → ◌≡◌ {A = Test} (reaches_at k) (reaches_at j) → ◌≡◌ {A = Test} (reaches_at o) (reaches_at m) → not_on w s o (starts_by w s selected k o) ≡ not_on w s m (starts_by w s selected j m)
-  same_not_on k j o m kept on =
-      let from = starts_are w s selected k o ∙ same_starts s w.packages selected k j o m kept on ∙ sym (starts_are w s selected j m) in
-      same_missing w s o m (starts_by w s selected k o) (starts_by w s selected j m) on from
+  same_not_on k j o m kept on = same_missing w s o m (starts_by w s selected k o) (starts_by w s selected j m) on (same_from k j o m kept on)
 
   excludes : (p : PlanText) (e : StepFault) → IsPlan w s selected p → IsRefused w s selected e → e ≡ step.Memory
   excludes p (step.NoTests q) a b = absurd (some_none (without_tests w s selected) (without_tests w s selected) q refl a.have_tests b)
+  excludes p (step.NoTarget word) a b = absurd (some_none (without_targets w s selected) (without_targets w s selected) (unfit_text word) refl a.have_targets b.1)
+  excludes p (step.Unmet q t) a b =
+      let kept = same_kept one w s a.kept b.kept a.is_resolved b.is_resolved in
+      let on = same_on one w s a.kept b.kept a.on b.on kept a.is_turned_on b.is_turned_on in
+      absurd (some_none (starts_by w s selected a.kept a.on).unmet (starts_by w s selected b.kept b.on).unmet (q, t) (ap (λ (f : Starts). f.unmet) (same_from a.kept b.kept a.on b.on kept on)) a.holds.1.0 b.holds)
   excludes p (step.NotOn q side) a b =
       let kept = same_kept one w s a.kept b.kept a.is_resolved b.is_resolved in
       let on = same_on one w s a.kept b.kept a.on b.on kept a.is_turned_on b.is_turned_on in
-      absurd (some_none (not_on w s a.on (starts_by w s selected a.kept a.on)) (not_on w s b.on (starts_by w s selected b.kept b.on)) (q, side) (same_not_on a.kept b.kept a.on b.on kept on) a.holds.1.0 b.holds)
+      absurd (some_none (not_on w s a.on (starts_by w s selected a.kept a.on)) (not_on w s b.on (starts_by w s selected b.kept b.on)) (q, side) (same_not_on a.kept b.kept a.on b.on kept on) a.holds.1.1 b.holds.1)
   excludes p (step.Lacking q name) a b =
       let kept = same_kept one w s a.kept b.kept a.is_resolved b.is_resolved in
       let on = same_on one w s a.kept b.kept a.on b.on kept a.is_turned_on b.is_turned_on in
-      absurd (some_none (lacks w s a.on) (lacks w s b.on) (q, name.now) (same_lacks w s a.on b.on on) a.holds.1.1 b.holds.1)
+      absurd (some_none (lacks w s a.on) (lacks w s b.on) (q, name.now) (same_lacks w s a.on b.on on) a.holds.1.2 b.holds.2)
   excludes p step.Memory a b = refl
 
 pub plan_excludes : VisitsAgree → PlanExcludesRefusal
@@ -82,6 +89,8 @@ clash c r h = cc
 
 abbrev is_memory : StepFault → Type 0
 is_memory (step.NoTests q) = ⊥
+is_memory (step.NoTarget word) = ⊥
+is_memory (step.Unmet q t) = ⊥
 is_memory (step.NotOn q side) = ⊥
 is_memory (step.Lacking q name) = ⊥
 is_memory step.Memory = Unit {0}
@@ -97,6 +106,8 @@ module _ (one : VisitsAgree) (w : WorkspaceText) (words : WordsText) (p : PlanTe
   of_words : (e : PlanFault) → IsRefusal w words e → e ≡ fault.Steps step.Memory
   of_words (fault.Words e) b = absurd (clash a.chosen (refusal_of e) (sym a.are_accepted ∙ b))
   of_words (fault.Steps (step.NoTests q)) b = absurd (refused (step.NoTests q) b)
+  of_words (fault.Steps (step.NoTarget word)) b = absurd (refused (step.NoTarget word) b)
+  of_words (fault.Steps (step.Unmet q t)) b = absurd (refused (step.Unmet q t) b)
   of_words (fault.Steps (step.NotOn q side)) b = absurd (refused (step.NotOn q side) b)
   of_words (fault.Steps (step.Lacking q name)) b = absurd (refused (step.Lacking q name) b)
   of_words (fault.Steps step.Memory) b = refl

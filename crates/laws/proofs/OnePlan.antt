@@ -1,5 +1,5 @@
 -- A workspace and a selection have one plan: all that a step takes from a visit is which labels it reaches.
-use Rattle.std.proofs.Common.{◌≡◌, ℕ, zero, suc, ◌+◌, List, [], ◌∷◌, ◌++◌, Bool, true, false, Option, Result, Ok, length, map, refl, ap, ap₂, sym, ◌∙◌, subst, if◌then◌else◌}
+use Rattle.std.proofs.Common.{◌≡◌, ℕ, zero, suc, ◌+◌, List, [], ◌∷◌, ◌++◌, Bool, true, false, Option, None, Some, Result, Ok, length, map, refl, ap, ap₂, sym, ◌∙◌, subst, if◌then◌else◌}
 use Rattle.std.specs.Prelude.{◌&&◌, ◌||◌, filter, nat_lt, not}
 use Rattle.std.specs.List.{list_all, list_any}
 use Rattle.std.specs.Option.{is_some, option_map_or}
@@ -8,16 +8,17 @@ use Rattle.guppy_packages.specs.Items.{slash_item, item_of}
 use Rattle.guppy_packages.specs.Rows.{RowText}
 use Rattle.feature_labels.specs.Names.{LabelName}
 use Rattle.feature_labels.specs.Names.LabelName.{base, named, optional}
-use Rattle.cargo_workspaces.specs.Workspaces.{DeclarationText, PackageText, TargetText, Text, WorkspaceText, both_lead_to, is_macro_target}
+use Rattle.cargo_workspaces.specs.Workspaces.{DeclarationText, PackageText, TargetText, Text, WorkspaceText, both_lead_to}
 use Rattle.plan_rows.specs.Commands.{is_started}
-use Rattle.plan_rows.specs.Steps.{SettingsText, built_entries, is_development, is_host, is_macro, lands, on_entries, resolved_entries, side_of}
+use Rattle.plan_rows.specs.Steps.{SettingsText, built_entries, is_development, is_host, lands, on_entries, resolved_entries, side_of}
 use Rattle.plan_rows.specs.Tables.{each_from, flag_at, rows_of}
 use Rattle.plan_rows.specs.declared.side.Side.{Side}
 use Rattle.plan_rows.specs.declared.side.Side.TheVariants.{Target}
-use Rattle.cargo_plans.specs.plan_starts.Lists.{joined_from}
+use Rattle.cargo_plans.specs.plan_starts.Lists.{first_from, joined_from}
 use Rattle.cargo_plans.specs.plan_starts.PackageVisits.{PairVisit, first_entry, is_kept, reaches_at}
 use Rattle.cargo_plans.specs.plan_starts.Starts.{Starts, dev_flags, is_among, start_places, starts_of, starts_on_host}
-use Rattle.cargo_plans.specs.plan_starts.Targets.{counts, is_chosen}
+use Rattle.cargo_plans.specs.plan_starts.Targets.{counts, has_macro, is_start}
+use Rattle.plan_words.specs.TargetChoices.{is_by_name, is_chosen}
 use Rattle.cargo_plans.specs.plan_units.Commands.{on_starts, resolved_starts}
 use Rattle.cargo_plans.specs.plan_units.Units.{UnitText, target_units, units_at, units_of}
 use Rattle.cargo_plans.specs.declared.plan_units.unit.Place.{Place}
@@ -59,7 +60,7 @@ module _ (s : SettingsText) (packages : List PackageText) (selected : List ℕ) 
   followed p d = is_some d.leads_to && (not (is_development d.kind) || is_started s.commands p) && (not d.optional || kept_by kept p d.name)
 
   abbrev leads : Text → DeclarationText → Bool
-  leads feature d = option_map_or (λ q. on_by on (lands s.split d (is_macro packages q) Target) q (named feature)) d.leads_to false
+  leads feature d = option_map_or (λ q. on_by on (lands s.split d (has_macro packages q) Target) q (named feature)) d.leads_to false
 
   abbrev called : ℕ → Text → DeclarationText → Bool
   called p name d = bytes_eq d.name name && followed p d
@@ -74,16 +75,23 @@ module _ (s : SettingsText) (packages : List PackageText) (selected : List ℕ) 
   ]
 
   abbrev is_built_by : ℕ → PackageText → TargetText → Bool
-  is_built_by p x t = is_chosen s.test t && list_all (met p x) t.required_features
+  is_built_by p x t = is_chosen s.choice t && list_all (met p x) t.required_features
 
-  abbrev macros_by : List Bool
-  macros_by = each_from (λ p x. is_among selected p && list_any (λ t. is_macro_target t && is_built_by p x t) x.targets) 0 packages
+  abbrev started_by : Bool → Bool → List Bool
+  started_by dev macros = each_from (λ p x. is_among selected p && list_any (λ t. is_start s.choice dev macros t && is_built_by p x t) x.targets) 0 packages
 
-  abbrev others_by : List Bool
-  others_by = each_from (λ p x. is_among selected p && list_any (λ t. not (is_macro_target t) && is_built_by p x t) x.targets) 0 packages
+  abbrev unmet_by : Option (ℕ × ℕ)
+  unmet_by = first_from (λ p x. if is_among selected p then first_from (λ k t. if is_by_name s.choice t && not (list_all (met p x) t.required_features) then Some (p, k) else None) 0 x.targets else None) 0 packages
 
   abbrev starts_from : Starts
-  starts_from = record { macros = macros_by; others = others_by; hosts = each_from (starts_on_host macros_by others_by) 0 packages }
+  starts_from = record {
+    macros = started_by false true;
+    others = started_by false false;
+    hosts = each_from (starts_on_host (started_by false true) (started_by false false)) 0 packages;
+    dev_macros = started_by true true;
+    dev_others = started_by true false;
+    unmet = unmet_by;
+  }
 
 pub same_starts : (s : SettingsText) (packages : List PackageText) (selected : List ℕ) (k j o m : PairVisit) → ◌≡◌ {A = Test} (reaches_at k) (reaches_at j) → ◌≡◌ {A = Test} (reaches_at o) (reaches_at m)
     → starts_of (record { settings = s; packages = packages; kept = k; on = o }) selected ≡ starts_of (record { settings = s; packages = packages; kept = j; on = m }) selected
@@ -119,7 +127,7 @@ unfolding starts_by
 starts_are w s selected kept on = refl
 
 pub built_is : (w : WorkspaceText) (s : SettingsText) (on : PairVisit) (from : Starts) (built : Visit) → IsBuiltFrom w s on from built
-    → IsVisitOf (rows_of (built_entries w s (turned_on on) (flag_at (dev_flags s.test (length s.targets) from)))) (start_places (length s.targets) from) built
+    → IsVisitOf (rows_of (built_entries w s (turned_on on) (flag_at (dev_flags (length s.targets) from)))) (start_places (length s.targets) from) built
 unfolding IsBuiltFrom
 built_is w s on from built h = h
 
@@ -141,10 +149,10 @@ module _ (one : VisitsAgree) (w : WorkspaceText) (s : SettingsText) where
   same_built : (o m : PairVisit) (f g : Starts) (u v : Visit) → ◌≡◌ {A = Test} (reaches_at o) (reaches_at m) → f ≡ g → IsBuiltFrom w s o f u → IsBuiltFrom w s m g v → ◌≡◌ {A = ℕ → LabelName → Bool} (reaches u) (reaches v)
   same_built o m f g u v on from a b =
       let targets = length s.targets in
-      let Visits : (Side → ℕ → Text → Bool) → Starts → Type 0 = λ t z. IsVisitOf (rows_of (built_entries w s t (flag_at (dev_flags s.test targets z)))) (start_places targets z) v in
+      let Visits : (Side → ℕ → Text → Bool) → Starts → Type 0 = λ t z. IsVisitOf (rows_of (built_entries w s t (flag_at (dev_flags targets z)))) (start_places targets z) v in
       let back : ◌≡◌ {A = Side → ℕ → Text → Bool} (turned_on m) (turned_on o) = ap turned_by (sym on) in
       let moved = subst (λ t. Visits t f) back (subst (λ z. Visits (turned_on m) z) (sym from) (built_is w s m g v b)) in
-      let alike = one (rows_of (built_entries w s (turned_on o) (flag_at (dev_flags s.test targets f)))) (start_places targets f) u v (built_is w s o f u a) moved in
+      let alike = one (rows_of (built_entries w s (turned_on o) (flag_at (dev_flags targets f)))) (start_places targets f) u v (built_is w s o f u a) moved in
       λ i k label. alike k label i
 
 pub one_plan : VisitsAgree → OnePlan

@@ -6,6 +6,7 @@ use Rattle.std.specs.Option.{is_some}
 use Rattle.std.specs.Str.{bytes_eq}
 use Rattle.feature_core.proofs.AddsLemmas.{Contains-first, Contains-later}
 use Rattle.cargo_workspaces.specs.Workspaces.{DeclarationText, PackageText, TargetText, Text, WorkspaceText, has_kind, has_macro_target, is_macro_target, is_proc_macro}
+use Rattle.plan_words.specs.TargetChoices.{needs_development}
 use Rattle.plan_rows.specs.Commands.{command_of, is_started}
 use Rattle.plan_rows.specs.Steps.{SettingsText, admits, admitted, command_list, dependency_as, is_build, is_development, lands, lead_by, macros_of, number_if, on_entry, on_lead, on_side, side_base}
 use Rattle.plan_rows.specs.Tables.{Dependency, Entry, each_from, flag_at}
@@ -76,7 +77,7 @@ module _ (w : WorkspaceText) (s : SettingsText) (alike : AllCountAlike w s) wher
   module _ (kept : ℕ → Text → Bool) where
     same_admitted : (p : ℕ) (d : DeclarationText) → IsDeclaredAlike s d → admitted (with_split s true) kept p Target d ≡ admitted (with_split s false) kept p Target d
     same_admitted p d is =
-        tests_same (not d.optional || kept p d.name) (is_development d.kind) (is_started s.commands p) s.test (is_build d.kind) (admits s.host d.platform) (list_any (λ holds. admits holds d.platform) s.targets) is.0 is.1 is.2
+        tests_same (not d.optional || kept p d.name) (is_development d.kind) (is_started s.commands p) (needs_development s.choice) (is_build d.kind) (admits s.host d.platform) (list_any (λ holds. admits holds d.platform) s.targets) is.0 is.1 is.2
 
     same_lead : (p : ℕ) (d : DeclarationText) → IsDeclaredAlike s d → (q : ℕ) → on_lead (macros_of w.packages) (with_split s true) kept Target p d q ≡ on_lead (macros_of w.packages) (with_split s false) kept Target p d q
     same_lead p d is q =

@@ -269,7 +269,7 @@ widest_turns_all_on w words widest p q is wide covered a b =
     larger_turns_nothing_off w (settings_by words a.chosen) (settings_by widest b.chosen) a.chosen.selected b.chosen.selected p q is
     (record {
       split = covered.split;
-      test = λ h. wide.test;
+      development = λ h. wide.development;
       commands = choices_grow w words.selection widest.selection.split widest.selection.features covered.split (λ f i. subst (λ z. CoversWord w z f) wide.selection (covered.features f i))
           a.chosen b.chosen a.are_accepted (subst (λ z. choose w z ≡ Ok b.chosen) wide.selection b.are_accepted);
       host = λ x c d i h. wide.host x c d i;

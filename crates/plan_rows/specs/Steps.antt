@@ -8,16 +8,17 @@ use Rattle.guppy_packages.specs.Items.{Item, feature_item, optional_item, slash_
 use Rattle.cargo_workspaces.specs.Workspaces.{Text, FeatureText, DeclarationText, PackageText, WorkspaceText, is_proc_macro, has_script}
 use Rattle.cargo_workspaces.specs.declared.package.Kind.{Kind}
 use Rattle.cargo_workspaces.specs.declared.package.Kind.TheVariants as kind
+use Rattle.plan_words.specs.TargetChoices.{TargetChoiceText, needs_development}
 use Rattle.plan_rows.specs.Commands.{command_of, is_started}
 use Rattle.plan_rows.specs.Tables.{Dependency, Entry, each_from, flag_at}
 use Rattle.plan_rows.specs.declared.side.Side.{Side}
 use Rattle.plan_rows.specs.declared.side.Side.TheVariants.{Target, Host}
 
--- What a plan is made of, besides the workspace: whether the resolver tells sides apart (2 and 3), whether development units are
--- built, the command features, and on which platform specs the host and each of the target platforms are.
+-- What a plan is made of, besides the workspace: whether the resolver tells sides apart (2 and 3), which targets are chosen, the command
+-- features, and on which platform specs the host and each of the target platforms are.
 pub record SettingsText : Type 0 where
   pub split : Bool
-  pub test : Bool
+  pub choice : TargetChoiceText
   pub commands : List (Option FeatureText)
   pub host : Text → Bool
   pub targets : List (Text → Bool)
@@ -137,7 +138,7 @@ applies_on host targets side d = if is_build d.kind || is_host side then admits 
 abbrev pub admitted : SettingsText → (ℕ → Text → Bool) → ℕ → Side → DeclarationText → Bool
 admitted s kept p side d =
     (not d.optional || kept p d.name)
-    && (not (is_development d.kind) || is_started s.commands p && (s.test || not s.split))
+    && (not (is_development d.kind) || is_started s.commands p && (needs_development s.choice || not s.split))
     && (not s.split || applies_on s.host s.targets side d)
 
 abbrev pub on_lead : List Bool → SettingsText → (ℕ → Text → Bool) → Side → ℕ → DeclarationText → ℕ → Option ℕ

@@ -43,7 +43,8 @@ fn admitted<P: Platform, K: Kept>(
     let settings = rules.settings;
     (!declaration.optional || rules.kept.is_kept(ix, declaration.name))
         && (declaration.kind != Kind::Development
-            || has_command(settings.commands, ix) && (settings.test || !settings.split))
+            || has_command(settings.commands, ix)
+                && (settings.choice.needs_development() || !settings.split))
         && (!settings.split || applies_on(settings.host, settings.targets, side, declaration))
 }
 

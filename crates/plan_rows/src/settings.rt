@@ -5,6 +5,7 @@ ghost use Rattle.plan_rows.specs.declared.side.Side.{Side as AnySide};
 
 use crate::side::Side;
 use cargo_workspaces::Feature;
+use plan_words::TargetChoice;
 
 /// A platform, on which platform specs hold or don't.
 pub trait Platform {
@@ -41,8 +42,8 @@ pub trait TurnedOn {
 pub struct Settings<'n, 'c, P> {
     /// True if the resolver tells the sides apart, as 2 and 3 do.
     pub split: bool,
-    /// True if tests are built, and so the dependencies for development of the started members.
-    pub test: bool,
+    /// The targets that are chosen. By these the dependencies for development of the started members count.
+    pub choice: TargetChoice<'c>,
     /// The command feature of each package that is started, by the number of the package.
     pub commands: &'n [Option<Feature<'c>>],
     pub host: &'n P,

@@ -4,6 +4,7 @@ pub mod Targets
 pub mod TargetViews
 pub mod Starts
 pub mod StartViews
+pub mod UnfitWords
 pub mod step_visits
 pub use Rattle.guppy_packages.specs as guppy_packages
 pub use Rattle.feature_labels.specs as feature_labels

@@ -4,39 +4,59 @@ use Rattle.std.specs.List.{list_any}
 use Rattle.std.specs.Option.{option_map_or}
 use Rattle.feature_labels.specs.Names.{LabelName}
 use Rattle.feature_labels.specs.Names.LabelName.{base}
-use Rattle.cargo_workspaces.specs.Workspaces.{PackageText, WorkspaceText, is_proc_macro}
+use Rattle.cargo_workspaces.specs.Workspaces.{PackageText, TargetText, WorkspaceText, is_proc_macro}
 use Rattle.plan_rows.specs.Steps.{is_development, side_of}
 use Rattle.plan_rows.specs.Tables.{each_from, flag_at}
 use Rattle.plan_rows.specs.declared.side.Side.{Side}
 use Rattle.plan_rows.specs.declared.side.Side.TheVariants.{Target}
 use Rattle.plan_starts.specs.Lists.{first_from, first_some, joined_from}
 use Rattle.plan_starts.specs.PackageVisits.{PairVisit, is_on}
-use Rattle.plan_starts.specs.Targets.{TargetRules, builds}
+use Rattle.plan_starts.specs.Targets.{TargetRules, builds, is_unmet}
 
 -- Whether the number is in the list.
 abbrev pub is_among : List ℕ → ℕ → Bool
 is_among numbers k = list_any (λ n. n == k) numbers
 
 -- Whether each package starts, by its number: with a target that is a procedural macro, with another one, and on the host. A package
--- that is a procedural macro also starts on the host if another target of it does on a target platform.
+-- that is a procedural macro also starts on the host if another target of it does on a target platform. The next two are the same as
+-- the first two, for targets that are built with the dependencies for development. The last is the first target that is chosen by its
+-- name and whose required features aren't on: its package and its place there.
 pub record Starts : Type 0 where
   pub macros : List Bool
   pub others : List Bool
   pub hosts : List Bool
+  pub dev_macros : List Bool
+  pub dev_others : List Bool
+  pub unmet : Option (ℕ × ℕ)
 
 -- Whether selected packages have such a target.
-abbrev pub started : TargetRules → List ℕ → Bool → List Bool
-started r selected macros = each_from (λ p x. is_among selected p && builds r macros p x) 0 r.packages
+abbrev pub started : TargetRules → List ℕ → Bool → Bool → List Bool
+started r selected dev macros = each_from (λ p x. is_among selected p && builds r dev macros p x) 0 r.packages
 
 -- Whether the package starts on the host.
 abbrev pub starts_on_host : List Bool → List Bool → ℕ → PackageText → Bool
 starts_on_host macros others p x = flag_at macros p || flag_at others p && is_proc_macro x
 
+-- The number of a target, with that of its package, if it is chosen by its name and a feature that it requires isn't on.
+abbrev pub unmet_target : TargetRules → ℕ → PackageText → ℕ → TargetText → Option (ℕ × ℕ)
+unmet_target r p x k t = if is_unmet r p x t then Some (p, k) else None
+
+-- The first such target of package `p`, if it is selected.
+abbrev pub unmet_at : TargetRules → List ℕ → ℕ → PackageText → Option (ℕ × ℕ)
+unmet_at r selected p x = if is_among selected p then first_from (unmet_target r p x) 0 x.targets else None
+
+-- The first such target of the selected packages.
+abbrev pub first_unmet : TargetRules → List ℕ → Option (ℕ × ℕ)
+first_unmet r selected = first_from (unmet_at r selected) 0 r.packages
+
 abbrev pub starts_of : TargetRules → List ℕ → Starts
 starts_of r selected = record {
-  macros = started r selected true;
-  others = started r selected false;
-  hosts = each_from (starts_on_host (started r selected true) (started r selected false)) 0 r.packages;
+  macros = started r selected false true;
+  others = started r selected false false;
+  hosts = each_from (starts_on_host (started r selected false true) (started r selected false false)) 0 r.packages;
+  dev_macros = started r selected true true;
+  dev_others = started r selected true false;
+  unmet = first_unmet r selected;
 }
 
 abbrev pub times : ℕ → List Bool → List Bool
@@ -48,8 +68,8 @@ abbrev pub start_flags : ℕ → Starts → List Bool
 start_flags targets s = s.hosts ++ times targets s.others
 
 -- Whether each entry starts with its dependencies for development. A package that starts on the host beside another target doesn't.
-abbrev pub dev_flags : Bool → ℕ → Starts → List Bool
-dev_flags test targets s = if test then s.macros ++ times targets s.others else []
+abbrev pub dev_flags : ℕ → Starts → List Bool
+dev_flags targets s = s.dev_macros ++ times targets s.dev_others
 
 -- The bases of the entries that start; the first flag is that of entry `k`.
 abbrev pub bases_from : ℕ → List Bool → List (ℕ × LabelName)

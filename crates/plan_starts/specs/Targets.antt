@@ -1,13 +1,14 @@
 -- The targets of a package that a command line chooses.
-use Rattle.std.specs.Prelude.{ℕ, List, Option, Bool, true, false, not, ◌&&◌, ◌||◌, if◌then◌else◌, codes, slice_get}
+use Rattle.std.specs.Prelude.{ℕ, List, Option, Bool, false, not, ◌&&◌, ◌||◌, if◌then◌else◌, slice_get}
 use Rattle.std.specs.List.{list_all, list_any}
 use Rattle.std.specs.Option.{is_some, option_map_or}
 use Rattle.std.specs.Str.{bytes_eq}
 use Rattle.guppy_packages.specs.Items.{slash_item, item_of}
 use Rattle.feature_labels.specs.Names.LabelName.{named}
-use Rattle.cargo_workspaces.specs.Workspaces.{Text, DeclarationText, TargetText, PackageText, both_lead_to, has_kind, has_macro_target, is_library, is_macro_target}
+use Rattle.cargo_workspaces.specs.Workspaces.{Text, DeclarationText, TargetText, PackageText, both_lead_to, has_macro_target, is_macro_target}
+use Rattle.plan_words.specs.TargetChoices.{TargetChoiceText, is_by_name, is_chosen, is_with_development, needs_development}
 use Rattle.plan_rows.specs.Commands.{is_started}
-use Rattle.plan_rows.specs.Steps.{SettingsText, admits, admits_any, is_development, is_macro, lands}
+use Rattle.plan_rows.specs.Steps.{SettingsText, admits, admits_any, is_development, lands}
 use Rattle.plan_rows.specs.declared.side.Side.TheVariants.{Target}
 use Rattle.plan_starts.specs.PackageVisits.{PairVisit, is_kept, is_on}
 
@@ -17,12 +18,6 @@ pub record TargetRules : Type 0 where
   pub packages : List PackageText
   pub kept : PairVisit
   pub on : PairVisit
-
--- With tests: what has tests, and examples; else libraries and programs; never build scripts.
-abbrev pub is_chosen : Bool → TargetText → Bool
-is_chosen test t =
-    not (has_kind (codes "custom-build") t)
-    && (if test then t.test || t.doctest || has_kind (codes "example") t else is_library t || has_kind (codes "bin") t)
 
 -- Whether a target of package `q` is a procedural macro.
 abbrev pub has_macro : List PackageText → ℕ → Bool
@@ -36,14 +31,15 @@ is_followed r p d =
     && (not (is_development d.kind) || is_started r.settings.commands p)
     && (not d.optional || is_kept r.kept p d.name)
 
--- Whether the declaration counts in the build: not for development or with tests, and on the host or on one of the targets.
+-- Whether the declaration counts in the build: dependencies for development do, or it isn't one, and it applies on the host or on a target.
 abbrev pub counts : SettingsText → DeclarationText → Bool
-counts s d = (not (is_development d.kind) || s.test) && (admits s.host d.platform || admits_any s.targets d.platform)
+counts s d = (not (is_development d.kind) || needs_development s.choice) && (admits s.host d.platform || admits_any s.targets d.platform)
 
--- Whether the feature is on in the package that the declaration leads to from the target side.
+-- Whether the feature is on in the package that the declaration leads to from the target side. A package with any target that is a
+-- procedural macro, also an example, is looked at on the host side.
 abbrev pub leads_on : TargetRules → Text → DeclarationText → Bool
 leads_on r feature d =
-    option_map_or (λ q. is_on r.on (lands r.settings.split d (is_macro r.packages q) Target) q (named feature)) d.leads_to false
+    option_map_or (λ q. is_on r.on (lands r.settings.split d (has_macro r.packages q) Target) q (named feature)) d.leads_to false
 
 -- Whether the declaration has the name and is followed.
 abbrev pub is_of : TargetRules → ℕ → Text → DeclarationText → Bool
@@ -61,11 +57,22 @@ is_met r p x need = elim (item_of need) [
   | _ ↦ is_on r.on Target p (named need)
 ]
 
+-- Whether all features that a target of package `p` requires are on.
+abbrev pub are_met : TargetRules → ℕ → PackageText → TargetText → Bool
+are_met r p x t = list_all (is_met r p x) t.required_features
+
 -- Whether a target of package `p` is built.
 abbrev pub is_built : TargetRules → ℕ → PackageText → TargetText → Bool
-is_built r p x t = is_chosen r.settings.test t && list_all (is_met r p x) t.required_features
+is_built r p x t = is_chosen r.settings.choice t && are_met r p x t
 
--- Whether a target is built that is a procedural macro, or one that isn't.
-abbrev pub builds : TargetRules → Bool → ℕ → PackageText → Bool
-builds r true p x = list_any (λ t. is_macro_target t && is_built r p x t) x.targets
-builds r false p x = list_any (λ t. not (is_macro_target t) && is_built r p x t) x.targets
+-- Whether the target is a procedural macro, if `macros`, or else isn't one; and, if `dev`, is built with the dependencies for development.
+abbrev pub is_start : TargetChoiceText → Bool → Bool → TargetText → Bool
+is_start c dev macros t = (if macros then is_macro_target t else not (is_macro_target t)) && (not dev || is_with_development c t)
+
+-- Whether such a target is built.
+abbrev pub builds : TargetRules → Bool → Bool → ℕ → PackageText → Bool
+builds r dev macros p x = list_any (λ t. is_start r.settings.choice dev macros t && is_built r p x t) x.targets
+
+-- Whether a word for a name chooses the target of package `p`, and a feature that it requires isn't on.
+abbrev pub is_unmet : TargetRules → ℕ → PackageText → TargetText → Bool
+is_unmet r p x t = is_by_name r.settings.choice t && not (are_met r p x t)

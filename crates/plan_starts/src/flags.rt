@@ -26,21 +26,11 @@ fn joined(
     Ok(flags)
 }
 
-/// Returns whether each entry starts with its dependencies for development, which only tests have. `targets` is the number of target
-/// platforms.
-pub fn dev_flags(
-    alloc: Global,
-    test: bool,
-    targets: usize,
-    starts: &Starts,
-) -> Result<Vec<bool>, AllocError>
-    ensures { IfOk result (λ flags. flags.items ≡ spec.dev_flags test targets (starts_text starts.now)) }
+/// Returns whether each entry starts with its dependencies for development. `targets` is the number of target platforms.
+pub fn dev_flags(alloc: Global, targets: usize, starts: &Starts) -> Result<Vec<bool>, AllocError>
+    ensures { IfOk result (λ flags. flags.items ≡ spec.dev_flags targets (starts_text starts.now)) }
 {
-    if test {
-        joined(alloc, &starts.macros, &starts.others, targets)
-    } else {
-        Ok(Vec::new(alloc))
-    }
+    joined(alloc, &starts.dev_macros, &starts.dev_others, targets)
 }
 
 /// Appends the base of entry `ix`, if it starts.

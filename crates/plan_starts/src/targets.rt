@@ -1,12 +1,13 @@
 //! The targets of a package that a command line chooses.
-ghost use Rattle.std.specs.Prelude.{◌≡◌, ◌&&◌, ◌||◌, ℕ, None, Some, IfOk, OnOk, false, if◌then◌else◌, not, map};
+ghost use Rattle.std.specs.Prelude.{◌≡◌, ◌&&◌, ◌||◌, ℕ, None, Some, IfOk, OnOk, false, if◌then◌else◌, map};
 ghost use Rattle.std.specs.BTreeSet.{contains};
 ghost use Rattle.std.specs.List.{list_all, list_any};
 ghost use Rattle.std.specs.Option.{option_map_or};
 ghost use Rattle.std.specs.Ordering.{nat_cmp};
 ghost use Rattle.cargo_workspaces.specs.Views.{declaration_text, package_text, target_text, texts};
-ghost use Rattle.cargo_workspaces.specs.Workspaces.{both_lead_to, is_macro_target};
+ghost use Rattle.cargo_workspaces.specs.Workspaces.{both_lead_to};
 ghost use Rattle.plan_rows.specs.SettingsView.{settings_text};
+ghost use Rattle.plan_words.specs.TargetChoices.{target_choice_text};
 ghost use Rattle.plan_starts.specs.Targets as spec;
 ghost use Rattle.plan_starts.specs.Targets.{has_macro};
 ghost use Rattle.plan_starts.specs.TargetViews.{rules_text};
@@ -14,8 +15,9 @@ ghost use Rattle.plan_starts.specs.TargetViews.{rules_text};
 use crate::package_visit::PackageVisit;
 use crate::step_visits::NamedFeatureDep;
 use cargo_workspaces::{Declaration, Kind, Package, Target};
-use plan_rows::rules::{admits, admits_any, has_command, is_macro_at, lands};
+use plan_rows::rules::{admits, admits_any, has_command, lands};
 use plan_rows::{Kept, Platform, Settings, Side};
+use plan_words::TargetChoice;
 use std::alloc::{AllocError, Global};
 use std::collections::BTreeSet;
 
@@ -28,21 +30,6 @@ pub struct TargetRules<'r, 'n, 'c, 'v, P> {
     pub kept: &'r PackageVisit,
     /// The visit of step `on`.
     pub on: &'r PackageVisit,
-}
-
-/// Returns whether `target` is built if its required features are on: with tests, what has tests, and examples; else libraries and
-/// programs; never build scripts.
-fn is_chosen(test: bool, target: &Target<'_>) -> bool
-    ensures { result ≡ spec.is_chosen test (target_text target.now) }
-{
-    if target.has_kind("custom-build") {
-        return false;
-    }
-    if test {
-        target.test || target.doctest || target.has_kind("example")
-    } else {
-        target.is_library() || target.has_kind("bin")
-    }
 }
 
 /// Returns whether a target of package `ix` is a procedural macro.
@@ -72,12 +59,13 @@ fn is_followed<P: Platform>(
 fn counts<P: Platform>(settings: &Settings<'_, '_, P>, declaration: &Declaration<'_>) -> bool
     ensures { result ≡ spec.counts (settings_text P.holds settings.now) (declaration_text declaration.now) }
 {
-    (declaration.kind != Kind::Development || settings.test)
+    (declaration.kind != Kind::Development || settings.choice.needs_development())
         && (admits(settings.host, declaration.platform)
             || admits_any(settings.targets, declaration.platform))
 }
 
-/// Returns whether `feature` is on in the package that `declaration` leads to from the target side.
+/// Returns whether `feature` is on in the package that `declaration` leads to from the target side. A package with any target that is a
+/// procedural macro is looked at on the host side.
 fn leads_on<P: Platform>(
     rules: &TargetRules<'_, '_, '_, '_, P>,
     feature: &str,
@@ -87,8 +75,8 @@ fn leads_on<P: Platform>(
 {
     match declaration.leads_to {
         Some(to) => {
-            let is_macro = is_macro_at(rules.packages, to);
-            let side = lands(rules.settings.split, declaration, is_macro, Side::Target);
+            let has_macro = has_macro_at(rules.packages, to);
+            let side = lands(rules.settings.split, declaration, has_macro, Side::Target);
             rules.on.has_feature(side, to, feature)
         }
         None => false,
@@ -249,61 +237,59 @@ fn is_built<P: Platform>(
 ) -> Result<bool, AllocError>
     ensures { IfOk result (λ b. b ≡ spec.is_built (rules_text P.holds rules.now) ix (package_text «package».now) (target_text target.now)) }
 {
-    if is_chosen(rules.settings.test, target) {
+    if rules.settings.choice.is_chosen(target) {
         are_met(alloc, rules, ix, package, &target.required_features)
     } else {
         Ok(false)
     }
 }
 
-/// Returns whether a target of package `ix` is built that is a procedural macro. The only error is out of memory.
-fn builds_macro<P: Platform>(
-    alloc: Global,
-    rules: &TargetRules<'_, '_, '_, '_, P>,
-    ix: usize,
-    package: &Package<'_>,
-) -> Result<bool, AllocError>
-    ensures { IfOk result (λ b. b ≡ list_any (λ t. is_macro_target t && spec.is_built (rules_text P.holds rules.now) ix (package_text «package».now) t) (package_text «package».now).targets) }
+/// Returns whether `target` is a procedural macro, if `macros`, or else isn't one; and, if `dev`, is built with the dependencies for
+/// development.
+fn is_start(choice: &TargetChoice<'_>, dev: bool, macros: bool, target: &Target<'_>) -> bool
+    ensures { result ≡ spec.is_start (target_choice_text choice.now) dev macros (target_text target.now) }
 {
-    for target in &package.targets {
-        if target.is_proc_macro() && is_built(alloc, rules, ix, package, target)? {
-            return Ok(true);
-        }
-    }
-    Ok(false)
+    let is_macro = target.is_proc_macro();
+    let is_here = if macros { is_macro } else { !is_macro };
+    is_here && (!dev || choice.is_with_development(target))
 }
 
-/// Returns whether a target of package `ix` is built that is no procedural macro. The only error is out of memory.
-fn builds_other<P: Platform>(
-    alloc: Global,
-    rules: &TargetRules<'_, '_, '_, '_, P>,
-    ix: usize,
-    package: &Package<'_>,
-) -> Result<bool, AllocError>
-    ensures { IfOk result (λ b. b ≡ list_any (λ t. not (is_macro_target t) && spec.is_built (rules_text P.holds rules.now) ix (package_text «package».now) t) (package_text «package».now).targets) }
-{
-    for target in &package.targets {
-        if !target.is_proc_macro() && is_built(alloc, rules, ix, package, target)? {
-            return Ok(true);
-        }
-    }
-    Ok(false)
-}
-
-/// Returns whether a target of package `ix` is built that is a procedural macro, if `macros`, or else one that isn't. The only error is
-/// out of memory.
+/// Returns whether a target of package `ix` is built that is a procedural macro, if `macros`, or else one that isn't; and, if `dev`, one
+/// with the dependencies for development. The only error is out of memory.
 pub(crate) fn builds<P: Platform>(
     alloc: Global,
     rules: &TargetRules<'_, '_, '_, '_, P>,
+    dev: bool,
     macros: bool,
     ix: usize,
     package: &Package<'_>,
 ) -> Result<bool, AllocError>
-    ensures { IfOk result (λ b. b ≡ spec.builds (rules_text P.holds rules.now) macros ix (package_text «package».now)) }
+    ensures { IfOk result (λ b. b ≡ spec.builds (rules_text P.holds rules.now) dev macros ix (package_text «package».now)) }
 {
-    if macros {
-        builds_macro(alloc, rules, ix, package)
-    } else {
-        builds_other(alloc, rules, ix, package)
+    for target in &package.targets {
+        if is_start(&rules.settings.choice, dev, macros, target)
+            && is_built(alloc, rules, ix, package, target)?
+        {
+            return Ok(true);
+        }
     }
+    Ok(false)
+}
+
+/// Returns whether a word for a name chooses `target` of package `ix`, and a feature that it requires isn't on. The only error is out of
+/// memory.
+pub(crate) fn is_unmet<P: Platform>(
+    alloc: Global,
+    rules: &TargetRules<'_, '_, '_, '_, P>,
+    ix: usize,
+    package: &Package<'_>,
+    target: &Target<'_>,
+) -> Result<bool, AllocError>
+    ensures { IfOk result (λ b. b ≡ spec.is_unmet (rules_text P.holds rules.now) ix (package_text «package».now) (target_text target.now)) }
+{
+    if !rules.settings.choice.is_by_name(target) {
+        return Ok(false);
+    }
+    let are_met = are_met(alloc, rules, ix, package, &target.required_features)?;
+    Ok(!are_met)
 }

@@ -34,7 +34,7 @@ module _ {Y : Type 0} (f : ℕ → Way → List Y) (p : Way → Bool) (none : (e
       let next : suc k ≡ k + 1 = omega arith in
       let here : slice_get all k ≡ Some w = subst (λ e. slice_get all e ≡ Some w) (omega arith) (are 0 w refl) in
       let later : joined_at f all (numbers_where p (suc k) ws) ≡ joined_from f (k + 1) ws =
-          joined_where (suc k) ws (λ i v at. subst (λ e. slice_get all e ≡ Some v) (omega arith) (are (suc i) v at)) ∙ ap (λ m. joined_from f m ws) next in
+      joined_where (suc k) ws (λ i v at. subst (λ e. slice_get all e ≡ Some v) (omega arith) (are (suc i) v at)) ∙ ap (λ m. joined_from f m ws) next in
       one_more k w ws here later (p w) refl
 
 -- the same numbers in both directions

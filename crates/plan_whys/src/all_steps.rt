@@ -104,7 +104,7 @@ pub fn explanation<'p, P: Platform>(
         Ok(chosen) => {
             let settings = Settings {
                 split: words.selection.split,
-                test: words.test,
+                choice: words.choice,
                 commands: &chosen.commands,
                 host: words.host,
                 targets: words.targets,

@@ -177,7 +177,7 @@ pub fn last_step_each<'p, P: Platform>(
         Ok(chosen) => {
             let settings = Settings {
                 split: words.selection.split,
-                test: words.test,
+                choice: words.choice,
                 commands: &chosen.commands,
                 host: words.host,
                 targets: words.targets,

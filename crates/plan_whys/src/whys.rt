@@ -84,7 +84,7 @@ pub fn why<'p, P: Platform>(
         Ok(chosen) => {
             let settings = Settings {
                 split: words.selection.split,
-                test: words.test,
+                choice: words.choice,
                 commands: &chosen.commands,
                 host: words.host,
                 targets: words.targets,
@@ -129,7 +129,7 @@ pub fn why_each<'p, P: Platform>(
         Ok(chosen) => {
             let settings = Settings {
                 split: words.selection.split,
-                test: words.test,
+                choice: words.choice,
                 commands: &chosen.commands,
                 host: words.host,
                 targets: words.targets,

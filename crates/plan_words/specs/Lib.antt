@@ -5,4 +5,5 @@ pub mod PackageWords
 pub mod Patterns
 pub mod Refusals
 pub mod Selections
+pub mod TargetChoices
 pub mod inner

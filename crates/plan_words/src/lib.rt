@@ -1,4 +1,5 @@
-//! The words of a command line: the packages that they select, and the features that they ask for.
+//! The words of a command line: the packages that they select, the features that they ask for, and the targets that they
+//! choose.
 #![tactic(auto)]
 
 mod choices;
@@ -11,6 +12,7 @@ mod package_words;
 mod patterns;
 mod selection;
 mod started;
+mod target_choice;
 mod word_parts;
 
 pub use choices::{Chosen, choose};
@@ -18,3 +20,4 @@ pub use fault::WordFault;
 pub use package_words::packages_of_word;
 pub use patterns::fits;
 pub use selection::{PackageChoice, Selection};
+pub use target_choice::{KindWords, TargetChoice, choice_of_command, choice_with_tests, is_called};

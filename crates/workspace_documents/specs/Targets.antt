@@ -22,6 +22,7 @@ texts_at name d = unwrap_or (option_and_then all_texts (option_and_then as_array
 -- The target that an object is.
 unfoldable pub target_in : Json → TargetText
 target_in d = record {
+  name = unwrap_or (text_at (codes "name") d) [];
   kinds = texts_at (codes "kind") d;
   crate_types = texts_at (codes "crate_types") d;
   test = flag_at (codes "test") d;

@@ -1,5 +1,6 @@
 //! The targets of a package, and fields that may be missing.
-ghost use Rattle.std.specs.Prelude.{◌≡◌, IfOk, map, option_map};
+ghost use Rattle.std.specs.Prelude.{◌≡◌, [], IfOk, codes, map, option_map};
+ghost use Rattle.std.specs.Option.{unwrap_or};
 ghost use Rattle.json.specs.Value.{value_view, items_view};
 ghost use Rattle.cargo_workspaces.specs.Views.{target_text};
 ghost use Rattle.workspace_documents.specs.Targets as spec;
@@ -46,6 +47,16 @@ pub(crate) fn texts_at<'v>(
     }
 }
 
+/// Returns the name of a target, or an empty text if `object` has none.
+fn name_of<'v>(object: &Value<'v>) -> &'v str
+    ensures { text_view result ≡ unwrap_or (spec.text_at (codes "name") (value_view object.now)) [] }
+{
+    match text_at(object, "name") {
+        Some(name) => name,
+        None => "",
+    }
+}
+
 /// Reads a target. The only error is out of memory.
 #[tactic(auto, unfolding(crate::specs::Targets::target_in))]
 fn target_of<'v>(alloc: Global, object: &Value<'v>) -> Result<Target<'v>, AllocError>
@@ -55,6 +66,7 @@ fn target_of<'v>(alloc: Global, object: &Value<'v>) -> Result<Target<'v>, AllocE
     let crate_types = texts_at(alloc, object, "crate_types")?;
     let required_features = texts_at(alloc, object, "required-features")?;
     Ok(Target {
+        name: name_of(object),
         kinds,
         crate_types,
         test: flag_at(object, "test"),

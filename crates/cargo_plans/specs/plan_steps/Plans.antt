@@ -10,6 +10,7 @@ use Rattle.plan_starts.specs.step_visits.Visits.{Visit, IsVisitOf}
 use Rattle.plan_starts.specs.PackageVisits.{PairVisit, is_kept, is_on}
 use Rattle.plan_starts.specs.Starts as starts
 use Rattle.plan_starts.specs.Starts.{Starts, dev_flags, start_places, first_missing, first_without_tests}
+use Rattle.plan_starts.specs.UnfitWords.{first_unfit}
 use Rattle.cargo_plans.specs.plan_units.Commands.{resolved_starts, on_starts}
 use Rattle.cargo_plans.specs.plan_units.Lacking as lacking
 use Rattle.cargo_plans.specs.plan_units.Units.{UnitText, units_of}
@@ -29,15 +30,19 @@ turned_on on side p name = is_on on side p (optional name)
 -- A visit of step `built`, where `on` is the visit of step `on`.
 unfoldable pub IsBuiltFrom : WorkspaceText → SettingsText → PairVisit → Starts → Visit → Type 0
 IsBuiltFrom w s on from built =
-    IsVisitOf (rows_of (built_entries w s (turned_on on) (flag_at (dev_flags s.test (length s.targets) from)))) (start_places (length s.targets) from) built
+    IsVisitOf (rows_of (built_entries w s (turned_on on) (flag_at (dev_flags (length s.targets) from)))) (start_places (length s.targets) from) built
 
 -- The entries at which step `built` starts.
 unfoldable pub starts_by : WorkspaceText → SettingsText → List ℕ → PairVisit → PairVisit → Starts
 starts_by w s selected kept on = starts.starts_of (record { settings = s; packages = w.packages; kept = kept; on = on }) selected
 
--- With tests, the first selected package whose tests can't be built.
+-- For `cargo test`, the first selected package whose tests can't be built.
 unfoldable pub without_tests : WorkspaceText → SettingsText → List ℕ → Option ℕ
-without_tests w s selected = if s.test then first_without_tests w selected else None
+without_tests w s selected = if s.choice.test then first_without_tests w selected else None
+
+-- The first word for targets that chooses none of the selected packages.
+unfoldable pub without_targets : WorkspaceText → SettingsText → List ℕ → Option (Text × Option Text)
+without_targets w s selected = first_unfit w.packages selected s.choice
 
 -- The first package that starts on a side where it isn't on.
 unfoldable pub not_on : WorkspaceText → SettingsText → PairVisit → Starts → Option (ℕ × Side)
@@ -47,13 +52,14 @@ not_on w s on from = first_missing s.split on from w.packages
 unfoldable pub lacks : WorkspaceText → SettingsText → PairVisit → Option (ℕ × Text)
 lacks w s on = lacking.first_lacking on s.commands w.packages
 
--- All that starts is on, and nothing is lacking.
+-- Each target that is chosen by its name can be built, all that starts is on, and nothing is lacking.
 abbrev pub IsComplete : WorkspaceText → SettingsText → PairVisit → Starts → Type 0
-IsComplete w s on from = (not_on w s on from ≡ None) × (lacks w s on ≡ None)
+IsComplete w s on from = (from.unmet ≡ None) × (not_on w s on from ≡ None) × (lacks w s on ≡ None)
 
--- The tests of the selected packages can be built, and visits of the first two steps have the property.
+-- The tests of the selected packages can be built, each word for targets chooses one, and visits of the first two steps have the property.
 pub record AfterSteps (w : WorkspaceText) (s : SettingsText) (selected : List ℕ) (P : PairVisit → PairVisit → Type 0) : Type 0 where
   pub have_tests : without_tests w s selected ≡ None
+  pub have_targets : without_targets w s selected ≡ None
   pub kept : PairVisit
   pub on : PairVisit
   pub is_resolved : IsResolved w s kept
@@ -82,11 +88,20 @@ IsPlan w s selected plan =
 abbrev pub HasNoTests : WorkspaceText → SettingsText → List ℕ → ℕ → Type 0
 HasNoTests w s selected p = without_tests w s selected ≡ Some p
 
--- Package `p` starts on the side, and isn't on there.
-abbrev pub IsNotOn : WorkspaceText → SettingsText → List ℕ → ℕ → Side → Type 0
-IsNotOn w s selected p side = AfterSteps w s selected (λ kept on. not_on w s on (starts_by w s selected kept on) ≡ Some (p, side))
+-- The tests can be built, and this word for targets chooses none.
+abbrev pub HasNoTarget : WorkspaceText → SettingsText → List ℕ → Text × Option Text → Type 0
+HasNoTarget w s selected word = (without_tests w s selected ≡ None) × (without_targets w s selected ≡ Some word)
 
--- All that starts is on, and package `p` lacks the dependency `name`.
+-- Target `t` of package `p` is chosen by its name, and a feature that it requires isn't on.
+abbrev pub IsUnmet : WorkspaceText → SettingsText → List ℕ → ℕ → ℕ → Type 0
+IsUnmet w s selected p t = AfterSteps w s selected (λ kept on. (starts_by w s selected kept on).unmet ≡ Some (p, t))
+
+-- The targets that are chosen by their names can be built, and package `p` starts on the side, and isn't on there.
+abbrev pub IsNotOn : WorkspaceText → SettingsText → List ℕ → ℕ → Side → Type 0
+IsNotOn w s selected p side =
+    AfterSteps w s selected (λ kept on. ((starts_by w s selected kept on).unmet ≡ None) × (not_on w s on (starts_by w s selected kept on) ≡ Some (p, side)))
+
+-- The targets that are chosen by their names can be built, all that starts is on, and package `p` lacks the dependency `name`.
 abbrev pub IsLacking : WorkspaceText → SettingsText → List ℕ → ℕ → Text → Type 0
 IsLacking w s selected p name =
-    AfterSteps w s selected (λ kept on. (not_on w s on (starts_by w s selected kept on) ≡ None) × (lacks w s on ≡ Some (p, name)))
+    AfterSteps w s selected (λ kept on. ((starts_by w s selected kept on).unmet ≡ None) × (not_on w s on (starts_by w s selected kept on) ≡ None) × (lacks w s on ≡ Some (p, name)))

@@ -28,7 +28,7 @@ fn tables_of_flags<P: Platform>(
     with_dev: &[bool],
 ) -> Result<PackageGraph, AllocError>
     requires room { length (workspace_text workspace.now).packages + length settings.now.targets.now * length (workspace_text workspace.now).packages ≤ ids.now }
-    requires flags { with_dev.now ≡ spec.dev_flags settings.now.test (length (settings_text P.holds settings.now).targets) (starts_text starts.now) }
+    requires flags { with_dev.now ≡ spec.dev_flags (length (settings_text P.holds settings.now).targets) (starts_text starts.now) }
     ensures { IfOk result (λ tables. AreBuiltTables (workspace_text workspace.now) (settings_text P.holds settings.now) on.now (starts_text starts.now) tables) }
 {
     let rows = rows_built(alloc, ids, workspace, settings, on, with_dev)?;
@@ -47,7 +47,7 @@ fn tables<P: Platform>(
     requires room { length (workspace_text workspace.now).packages + length settings.now.targets.now * length (workspace_text workspace.now).packages ≤ ids.now }
     ensures { IfOk result (λ tables. AreBuiltTables (workspace_text workspace.now) (settings_text P.holds settings.now) on.now (starts_text starts.now) tables) }
 {
-    let with_dev = dev_flags(alloc, settings.test, target_count(settings), starts)?;
+    let with_dev = dev_flags(alloc, target_count(settings), starts)?;
     tables_of_flags(alloc, ids, workspace, settings, on, starts, &with_dev)
 }
 

@@ -8,7 +8,7 @@ ghost use Rattle.cargo_plans.specs.plan_steps.PlanViews.{Plans};
 ghost use Rattle.cargo_plans.specs.plan_steps.Plans as spec;
 ghost use Rattle.cargo_plans.specs.plan_steps.inner.Stages.{Planned};
 
-use crate::plan_steps::checks::without_tests;
+use crate::plan_steps::checks::{without_targets, without_tests};
 use crate::plan_steps::entries::ids_of;
 use crate::plan_steps::fault::StepFault;
 use crate::plan_steps::on_step::on_step;
@@ -41,7 +41,7 @@ fn planned<'w>(
     }
 }
 
-/// Returns the plan of the `selected` packages, whose tests can be built: `kept` and `on` are the visits of the first two steps, and
+/// Returns the plan of the `selected` packages, whose tests can be built and which have targets for each word: `kept` and `on` are the visits of the first two steps, and
 /// `ids` has at least one id for each package in each place.
 fn plan_of_visits<'w, P: Platform>(
     alloc: Global,
@@ -53,6 +53,7 @@ fn plan_of_visits<'w, P: Platform>(
     on: PackageVisit,
 ) -> Result<Plan<'w>, StepFault<'w>>
     requires tests { spec.without_tests (workspace_text workspace.now) (settings_text P.holds settings.now) selected.now ≡ None }
+    requires targets { spec.without_targets (workspace_text workspace.now) (settings_text P.holds settings.now) selected.now ≡ None }
     requires selected { IsTrue (list_all (λ p. nat_lt p (length (workspace_text workspace.now).packages)) selected.now) }
     requires places { length (workspace_text workspace.now).packages + length settings.now.targets.now * length (workspace_text workspace.now).packages ≤ ids.now }
     requires resolved { spec.IsResolved (workspace_text workspace.now) (settings_text P.holds settings.now) kept.now }
@@ -63,7 +64,7 @@ fn plan_of_visits<'w, P: Platform>(
     planned(on, built)
 }
 
-/// Returns the plan of the `selected` packages, whose tests can be built: `kept` is the visit of step `resolved`, and `ids` has at least
+/// Returns the plan of the `selected` packages, whose tests can be built and which have targets for each word: `kept` is the visit of step `resolved`, and `ids` has at least
 /// one id for each entry of each step.
 fn plan_of_kept<'w, P: Platform>(
     alloc: Global,
@@ -74,6 +75,7 @@ fn plan_of_kept<'w, P: Platform>(
     kept: &PackageVisit,
 ) -> Result<Plan<'w>, StepFault<'w>>
     requires tests { spec.without_tests (workspace_text workspace.now) (settings_text P.holds settings.now) selected.now ≡ None }
+    requires targets { spec.without_targets (workspace_text workspace.now) (settings_text P.holds settings.now) selected.now ≡ None }
     requires selected { IsTrue (list_all (λ p. nat_lt p (length (workspace_text workspace.now).packages)) selected.now) }
     requires sides { 2 * length (workspace_text workspace.now).packages ≤ ids.now }
     requires places { length (workspace_text workspace.now).packages + length settings.now.targets.now * length (workspace_text workspace.now).packages ≤ ids.now }
@@ -88,7 +90,7 @@ fn plan_of_kept<'w, P: Platform>(
     }
 }
 
-/// Returns the plan of the `selected` packages, whose tests can be built: `ids` has at least one id for each entry of each step.
+/// Returns the plan of the `selected` packages, whose tests can be built and which have targets for each word: `ids` has at least one id for each entry of each step.
 fn plan_of_steps<'w, P: Platform>(
     alloc: Global,
     ids: &Ids,
@@ -97,6 +99,7 @@ fn plan_of_steps<'w, P: Platform>(
     selected: &[usize],
 ) -> Result<Plan<'w>, StepFault<'w>>
     requires tests { spec.without_tests (workspace_text workspace.now) (settings_text P.holds settings.now) selected.now ≡ None }
+    requires targets { spec.without_targets (workspace_text workspace.now) (settings_text P.holds settings.now) selected.now ≡ None }
     requires selected { IsTrue (list_all (λ p. nat_lt p (length (workspace_text workspace.now).packages)) selected.now) }
     requires sides { 2 * length (workspace_text workspace.now).packages ≤ ids.now }
     requires places { length (workspace_text workspace.now).packages + length settings.now.targets.now * length (workspace_text workspace.now).packages ≤ ids.now }
@@ -114,6 +117,24 @@ fn plan_of_steps<'w, P: Platform>(
     }
 }
 
+/// Returns the plan of the `selected` packages, whose tests can be built and which have targets for each word.
+fn plan_with_targets<'w, P: Platform>(
+    alloc: Global,
+    workspace: &'w Workspace<'_>,
+    settings: &Settings<'_, 'w, P>,
+    selected: &[usize],
+) -> Result<Plan<'w>, StepFault<'w>>
+    requires tests { spec.without_tests (workspace_text workspace.now) (settings_text P.holds settings.now) selected.now ≡ None }
+    requires targets { spec.without_targets (workspace_text workspace.now) (settings_text P.holds settings.now) selected.now ≡ None }
+    requires selected { IsTrue (list_all (λ p. nat_lt p (length (workspace_text workspace.now).packages)) selected.now) }
+    requires count { length settings.now.commands.now ≡ length (workspace_text workspace.now).packages }
+    requires named { IsTrue (are_commands (command_texts settings.now.commands.now)) }
+    ensures { Plans (workspace_text workspace.now) (settings_text P.holds settings.now) selected.now result }
+{
+    let ids = ids_of(alloc, workspace.package_count(), settings.targets.len())?;
+    plan_of_steps(alloc, &ids, workspace, settings, selected)
+}
+
 /// Returns the plan of the `selected` packages, whose tests can be built.
 fn plan_with_tests<'w, P: Platform>(
     alloc: Global,
@@ -127,15 +148,18 @@ fn plan_with_tests<'w, P: Platform>(
     requires named { IsTrue (are_commands (command_texts settings.now.commands.now)) }
     ensures { Plans (workspace_text workspace.now) (settings_text P.holds settings.now) selected.now result }
 {
-    let ids = ids_of(alloc, workspace.package_count(), settings.targets.len())?;
-    plan_of_steps(alloc, &ids, workspace, settings, selected)
+    match without_targets(workspace, settings, selected) {
+        Some(word) => Err(StepFault::NoTarget(word)),
+        None => plan_with_targets(alloc, workspace, settings, selected),
+    }
 }
 
 /// Returns the plan of the `selected` packages of `workspace`, by their numbers: what is built by `settings`, which has a place for the
 /// command feature of each package.
 ///
-/// Returns `NoTests` for the first selected package whose tests can't be built; then `NotOn` for the first package that starts on a
-/// side where it isn't on; then `Lacking` for the first package that lacks a dependency; and `Memory` if an allocation fails.
+/// Returns `NoTests` for the first selected package whose tests can't be built; then `NoTarget` for the first word for targets that
+/// chooses none; then `Unmet` for the first target that is chosen by its name and lacks a feature; then `NotOn` for the first package that
+/// starts on a side where it isn't on; then `Lacking` for the first package that lacks a dependency; and `Memory` if an allocation fails.
 pub fn plan_of<'w, P: Platform>(
     alloc: Global,
     workspace: &'w Workspace<'_>,

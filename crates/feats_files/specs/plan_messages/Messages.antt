@@ -1,5 +1,6 @@
 -- Messages about selections that have no plan.
-use Rattle.std.specs.Prelude.{ℕ, List, [], ◌∷◌, ◌++◌, flat_map, codes}
+use Rattle.std.specs.Prelude.{ℕ, List, [], ◌∷◌, ◌++◌, flat_map, codes, Option, Some, None, slice_get}
+use Rattle.std.specs.Option.{option_map_or}
 use Rattle.cargo_workspaces.specs.Workspaces.{Text, PackageText}
 use Rattle.plan_rows.specs.declared.side.Side.{Side}
 use Rattle.plan_rows.specs.declared.side.Side.TheVariants as side
@@ -9,6 +10,7 @@ use Rattle.cargo_plans.specs.declared.plan_steps.fault.StepFault.{StepFault}
 use Rattle.cargo_plans.specs.declared.plan_steps.fault.StepFault.TheVariants as step
 use Rattle.cargo_plans.specs.declared.fault.PlanFault.{PlanFault}
 use Rattle.cargo_plans.specs.declared.fault.PlanFault.TheVariants as fault
+use Rattle.cargo_plans.specs.plan_starts.UnfitWords.{unfit_text}
 use Rattle.feats_files.specs.Messages.{joined}
 use Rattle.feats_files.specs.PackageWords.{word_at}
 use Rattle.feats_files.specs.Platforms.{id_at}
@@ -44,8 +46,34 @@ side_word side.Host = codes "host"
 abbrev pub not_on_message : List PackageText → ℕ → Text → Text
 not_on_message packages p side = joined (codes "package " ∷ id_at packages p ∷ codes " isn't built for the " ∷ side ∷ codes ": select a member that depends on it too" ∷ [])
 
+-- The message that a word for targets, of this kind, chooses none of the selected packages.
+abbrev pub no_target_message : Text × Option Text → Text
+no_target_message (kind, None) = joined (codes "no selected package has a library: leave --lib out" ∷ [])
+no_target_message (kind, Some name) =
+    joined (codes "no selected package has a target of the kind `" ∷ kind ∷ codes "` that fits `" ∷ name ∷ codes "`: write its name, or a pattern with `*`" ∷ [])
+
+-- The name of target `t` of package `p`.
+abbrev pub target_name : List PackageText → ℕ → ℕ → Text
+target_name packages p t = option_map_or (λ x. option_map_or (λ t. t.name) (slice_get x.targets t) []) (slice_get packages p) []
+
+-- The features that it requires.
+abbrev pub needs_of : List PackageText → ℕ → ℕ → List Text
+needs_of packages p t = option_map_or (λ x. option_map_or (λ t. t.required_features) (slice_get x.targets t) []) (slice_get packages p) []
+
+abbrev pub needed_feature : Text → Text
+needed_feature feature = joined (codes " `" ∷ feature ∷ codes "`" ∷ [])
+
+-- The message that target `t` of package `p` requires features which aren't all on.
+abbrev pub unmet_message : List PackageText → ℕ → ℕ → Text
+unmet_message packages p t =
+    joined (codes "the target `" ∷ target_name packages p t ∷ codes "` of package " ∷ id_at packages p
+    ∷ codes " requires features, and not all are on: add --features for" ∷ [])
+    ++ flat_map needed_feature (needs_of packages p t)
+
 abbrev pub step_message : List PackageText → StepFault → Text
-step_message packages (step.NoTests p) = joined (codes "package " ∷ id_at packages p ∷ codes " isn't a member of the workspace, and its tests need its dependencies for development: leave --tests out" ∷ [])
+step_message packages (step.NoTests p) = joined (codes "package " ∷ id_at packages p ∷ codes " isn't a member of the workspace, and its tests need its dependencies for development: leave `--command test` out" ∷ [])
+step_message packages (step.NoTarget word) = no_target_message (unfit_text word)
+step_message packages (step.Unmet p t) = unmet_message packages p t
 step_message packages (step.NotOn p side) = not_on_message packages p (side_word side)
 step_message packages (step.Lacking p name) =
     joined (codes "the document has no package for the optional dependency `" ∷ name.now ∷ codes "` of " ∷ id_at packages p

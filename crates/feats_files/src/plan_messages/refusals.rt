@@ -1,13 +1,15 @@
 //! The refusals of selections that have no plan.
 ghost use Rattle.std.specs.Prelude.{◌≡◌, ◌++◌, IfOk, OnOk, string_bytes};
+ghost use Rattle.cargo_workspaces.specs.Views.{texts};
 ghost use Rattle.cargo_workspaces.specs.WorkspaceView.{workspace_text};
 ghost use Rattle.cargo_plans.specs.Refusals.{is_memory};
+ghost use Rattle.cargo_plans.specs.plan_starts.UnfitWords.{unfit_text};
 ghost use Rattle.feats_files.specs.Messages.{IsRefused};
 ghost use Rattle.feats_files.specs.plan_messages.Messages as spec;
 
 use crate::platforms::id_at;
 use crate::{Fault, push_escaped, push_package, refused};
-use cargo_plans::{PlanFault, Side, StepFault, WordFault};
+use cargo_plans::{PlanFault, Side, StepFault, UnfitWord, WordFault};
 use cargo_workspaces::Workspace;
 use std::alloc::{AllocError, Global};
 
@@ -171,6 +173,95 @@ fn not_on_refused<'p>(
     )
 }
 
+/// Returns the refusal of a word for targets that chooses none of the selected packages.
+fn no_target_refused(alloc: Global, word: UnfitWord<'_>) -> Fault
+    ensures { IsRefused (spec.no_target_message (unfit_text word.entry)) result }
+{
+    match word.name {
+        Some(name) => refused(
+            alloc,
+            &[
+                "no selected package has a target of the kind `",
+                word.kind,
+                "` that fits `",
+                name,
+                "`: write its name, or a pattern with `*`",
+            ],
+        ),
+        None => refused(
+            alloc,
+            &["no selected package has a library: leave --lib out"],
+        ),
+    }
+}
+
+/// Returns the name of target `target` of package `package`; an empty text if there is none.
+fn target_name<'w>(workspace: &'w Workspace<'_>, package: usize, target: usize) -> &'w str
+    ensures { result.now ≡ spec.target_name (workspace_text workspace.now).packages «package» target }
+{
+    match workspace.packages().get(package) {
+        Some(found) => match found.targets.get(target) {
+            Some(chosen) => chosen.name,
+            None => "",
+        },
+        None => "",
+    }
+}
+
+/// Returns the features that target `target` of package `package` requires; none if there is no such target.
+fn needs_of<'w, 'v>(workspace: &'w Workspace<'v>, package: usize, target: usize) -> &'w [&'v str]
+    ensures { texts result.now ≡ spec.needs_of (workspace_text workspace.now).packages «package» target }
+{
+    match workspace.packages().get(package) {
+        Some(found) => match found.targets.get(target) {
+            Some(chosen) => &chosen.required_features,
+            None => &[],
+        },
+        None => &[],
+    }
+}
+
+/// Appends the name of a feature.
+fn push_feature(text: &mut String, feature: &str) -> Result<(), AllocError>
+    ensures { OnOk result (string_bytes text.new ≡ string_bytes text.old ++ spec.needed_feature feature.now) }
+{
+    text.push_str(" `")?;
+    text.push_str(feature)?;
+    text.push_str("`")?;
+    Ok(())
+}
+
+/// Returns the message about a target that is chosen by its name, and requires a feature that isn't on.
+fn unmet_message(
+    alloc: Global,
+    workspace: &Workspace<'_>,
+    package: usize,
+    target: usize,
+) -> Result<String, AllocError>
+    ensures { IfOk result (λ text. string_bytes text ≡ spec.unmet_message (workspace_text workspace.now).packages «package» target) }
+{
+    let needs = needs_of(workspace, package, target);
+    let mut text = String::from_str(alloc, "the target `")?;
+    text.push_str(target_name(workspace, package, target))?;
+    text.push_str("` of package ")?;
+    text.push_str(id_at(workspace, package))?;
+    text.push_str(" requires features, and not all are on: add --features for")?;
+    for feature in needs {
+        push_feature(&mut text, feature)?;
+    }
+    Ok(text)
+}
+
+/// Returns the refusal of a target that is chosen by its name, and requires a feature that isn't on.
+fn unmet_refused(alloc: Global, workspace: &Workspace<'_>, package: usize, target: usize) -> Fault
+    ensures { IsRefused (spec.unmet_message (workspace_text workspace.now).packages «package» target) result }
+{
+    match unmet_message(alloc, workspace, package, target) {
+        Ok(message) => Fault::Refused { message },
+        Err(_) => Fault::Memory,
+    }
+}
+
 /// Returns the refusal of a selection that a step refuses.
 fn step_refused<'p>(alloc: Global, workspace: &'p Workspace<'_>, fault: StepFault<'p>) -> Fault
     ensures { IsRefused (spec.step_message (workspace_text workspace.now).packages fault.entry) result }
@@ -181,9 +272,11 @@ fn step_refused<'p>(alloc: Global, workspace: &'p Workspace<'_>, fault: StepFaul
             &[
                 "package ",
                 id_at(workspace, package),
-                " isn't a member of the workspace, and its tests need its dependencies for development: leave --tests out",
+                " isn't a member of the workspace, and its tests need its dependencies for development: leave `--command test` out",
             ],
         ),
+        StepFault::NoTarget(word) => no_target_refused(alloc, word),
+        StepFault::Unmet { package, target } => unmet_refused(alloc, workspace, package, target),
         StepFault::NotOn { package, side } => {
             not_on_refused(alloc, workspace, package, side_word(side))
         }

@@ -97,7 +97,7 @@ fn words_in<'s, 'w: 's, 'n, P: Platform>(
     let _ = edited;
     PlanWords {
         selection: words.selection,
-        test: words.test,
+        choice: words.choice,
         host: words.host,
         targets: words.targets,
     }

@@ -45,7 +45,7 @@ GrownTablesReachMore = (t s : Tables) → AreTables t → AreTables s → (R : �
 
 -- The settings with other command features.
 abbrev pub with_commands : SettingsText → List (Option FeatureText) → SettingsText
-with_commands s commands = record { split = s.split; test = s.test; commands = commands; host = s.host; targets = s.targets }
+with_commands s commands = record { split = s.split; choice = s.choice; commands = commands; host = s.host; targets = s.targets }
 
 -- Each command feature is there with all its items.
 abbrev pub CommandsGrow : List (Option FeatureText) → List (Option FeatureText) → Type 0
@@ -64,7 +64,7 @@ abbrev pub select_features : SelectionText → List Text → SelectionText
 select_features s features = record { packages = s.packages; features = features; all_features = s.all_features; no_default_features = s.no_default_features; split = s.split }
 
 abbrev pub with_feature_words : WordsText → List Text → WordsText
-with_feature_words words features = record { selection = select_features words.selection features; test = words.test; host = words.host; targets = words.targets }
+with_feature_words words features = record { selection = select_features words.selection features; choice = words.choice; host = words.host; targets = words.targets }
 
 -- MORE FEATURE WORDS TURN NOTHING OFF.
 abbrev pub MoreWordsTurnNothingOff : Type 0

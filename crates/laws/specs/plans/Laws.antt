@@ -6,6 +6,7 @@ use Rattle.guppy_packages.specs.Tables.{Tables}
 use Rattle.feature_labels.specs.Names.{LabelName}
 use Rattle.plan_starts.specs.step_visits.Visits.{IsReached, IsVisitOf, Visit, reaches}
 use Rattle.cargo_workspaces.specs.Workspaces.{DeclarationText, IsWorkspace, PackageText, Text, WorkspaceText, has_macro_target}
+use Rattle.plan_words.specs.TargetChoices.{needs_development}
 use Rattle.plan_rows.specs.Steps.{SettingsText, admits, is_build, is_development, on_side, resolved_entries}
 use Rattle.plan_rows.specs.declared.side.Side.TheVariants.{Target}
 use Rattle.cargo_plans.specs.plan_units.Commands.{on_starts}
@@ -59,13 +60,13 @@ PlanOfWordsExcludesRefusal = (w : WorkspaceText) (words : WordsText) (p : PlanTe
 
 -- The settings, if the resolver tells sides apart or doesn't.
 abbrev pub with_split : SettingsText → Bool → SettingsText
-with_split s split = record { split = split; test = s.test; commands = s.commands; host = s.host; targets = s.targets }
+with_split s split = record { split = split; choice = s.choice; commands = s.commands; host = s.host; targets = s.targets }
 
 -- Whether a declaration counts alike with each resolver: it isn't for builds; if it is for development, tests are built; and it is used on
 -- one of the targets.
 abbrev pub IsDeclaredAlike : SettingsText → DeclarationText → Type 0
 IsDeclaredAlike s d =
-    IsFalse (is_build d.kind) × (IsTrue (is_development d.kind) → IsTrue s.test) × IsTrue (list_any (λ holds. admits holds d.platform) s.targets)
+    IsFalse (is_build d.kind) × (IsTrue (is_development d.kind) → IsTrue (needs_development s.choice)) × IsTrue (list_any (λ holds. admits holds d.platform) s.targets)
 
 -- No target of a package is a procedural macro, and each declaration counts alike with each resolver. So nothing is for the host alone.
 abbrev pub AllCountAlike : WorkspaceText → SettingsText → Type 0

@@ -1,4 +1,4 @@
--- Selections that are wider: more is started, tests are built, and more platform specs hold.
+-- Selections that are wider: more is started, dependencies for development count, and more platform specs hold.
 use Rattle.std.specs.Prelude.{◌≡◌, ◌⊎◌, ℕ, List, Bool, true, false, Contains, IsTrue, IsFalse, Option, None, Some}
 use Rattle.std.specs.List.{list_any}
 use Rattle.feature_labels.specs.Names.{LabelName}
@@ -6,6 +6,7 @@ use Rattle.cargo_workspaces.specs.Workspaces.{DeclarationText, IsWorkspace, Pack
 use Rattle.plan_words.specs.Choices.{root_of}
 use Rattle.plan_words.specs.FeatureWords.{PartsText, declares, is_slash, parts_of}
 use Rattle.plan_words.specs.Selections.{SelectionText, all_members}
+use Rattle.plan_words.specs.TargetChoices.{needs_development}
 use Rattle.plan_rows.specs.Steps.{SettingsText, admits, admits_any}
 use Rattle.plan_rows.specs.declared.side.Side.{Side}
 use Rattle.cargo_plans.specs.plan_starts.PackageVisits.{is_on}
@@ -17,11 +18,11 @@ use Rattle.laws.specs.plans.Growth.{CommandsGrow}
 abbrev pub OfDeclarations : WorkspaceText → (DeclarationText → Type 0) → Type 0
 OfDeclarations w P = (x : PackageText) → Contains w.packages x → (d : DeclarationText) → Contains x.declarations d → P d
 
--- SETTINGS THAT GROW, with the same resolver: tests if there were tests, each command feature with all its items, and each declaration that
+-- SETTINGS THAT GROW, with the same resolver: dependencies for development if there were any, each command feature with all its items, and each declaration that
 -- applies on the host, or on one of the targets, still does.
 pub record SettingsGrow (w : WorkspaceText) (s t : SettingsText) : Type 0 where
   pub split : s.split ≡ t.split
-  pub test : IsTrue s.test → IsTrue t.test
+  pub development : IsTrue (needs_development s.choice) → IsTrue (needs_development t.choice)
   pub commands : CommandsGrow s.commands t.commands
   pub host : OfDeclarations w (λ d. IsTrue (admits s.host d.platform) → IsTrue (admits t.host d.platform))
   pub targets : OfDeclarations w (λ d. IsTrue (admits_any s.targets d.platform) → IsTrue (admits_any t.targets d.platform))
@@ -39,10 +40,10 @@ LargerTurnsNothingOff = (w : WorkspaceText) (s t : SettingsText) (selected other
 abbrev pub widest_selection : Bool → List Text → SelectionText
 widest_selection split features = record { packages = all_members; features = features; all_features = true; no_default_features = false; split = split }
 
--- THE WIDEST WORDS: all members with all their features, and tests; and each declaration applies on the host, and on one of the targets.
+-- THE WIDEST WORDS: all members with all their features, and dependencies for development; and each declaration applies on the host, and on one of the targets.
 pub record IsWidest (w : WorkspaceText) (words : WordsText) : Type 0 where
   pub selection : words.selection ≡ widest_selection words.selection.split words.selection.features
-  pub test : IsTrue words.test
+  pub development : IsTrue (needs_development words.choice)
   pub host : OfDeclarations w (λ d. IsTrue (admits words.host d.platform))
   pub targets : OfDeclarations w (λ d. IsTrue (admits_any words.targets d.platform))
 

@@ -16,8 +16,10 @@ use Rattle.cargo_plans.specs.declared.plan_steps.stages.Built.{Built}
 -- Why nothing is built, where packages start.
 abbrev pub Stops : WorkspaceText → SettingsText → PairVisit → Starts → StepFault → Type 0
 Stops w s on from (fault.NoTests p) = ⊥
-Stops w s on from (fault.NotOn p side) = not_on w s on from ≡ Some (p, side)
-Stops w s on from (fault.Lacking p name) = (not_on w s on from ≡ None) × (lacks w s on ≡ Some (p, name.now))
+Stops w s on from (fault.NoTarget word) = ⊥
+Stops w s on from (fault.Unmet p t) = from.unmet ≡ Some (p, t)
+Stops w s on from (fault.NotOn p side) = (from.unmet ≡ None) × (not_on w s on from ≡ Some (p, side))
+Stops w s on from (fault.Lacking p name) = (from.unmet ≡ None) × (not_on w s on from ≡ None) × (lacks w s on ≡ Some (p, name.now))
 Stops w s on from fault.Memory = ⊤
 
 -- What the checks return.

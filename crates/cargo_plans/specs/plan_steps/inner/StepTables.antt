@@ -19,4 +19,4 @@ AreOnTables w s kept t = tables_of (rows_of (on_entries w s (is_kept kept))) ≡
 
 -- The tables of step `built`.
 unfoldable pub AreBuiltTables : WorkspaceText → SettingsText → PairVisit → Starts → Tables → Type 0
-AreBuiltTables w s on from t = tables_of (rows_of (built_entries w s (turned_on on) (flag_at (dev_flags s.test (length s.targets) from)))) ≡ Ok t
+AreBuiltTables w s on from t = tables_of (rows_of (built_entries w s (turned_on on) (flag_at (dev_flags (length s.targets) from)))) ≡ Ok t

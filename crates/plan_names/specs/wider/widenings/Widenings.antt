@@ -1,6 +1,7 @@
 -- The widened selections of a command line.
 use Rattle.std.specs.Prelude.{List, [], ◌∷◌, ◌||◌, Bool, true, false, not}
 use Rattle.cargo_workspaces.specs.Workspaces.{Text}
+use Rattle.plan_words.specs.TargetChoices.{with_tests as tested}
 use Rattle.plan_words.specs.Selections.{ChoiceText, SelectionText, all_but, all_members, default_members, named}
 use Rattle.cargo_plans.specs.Plans.{WordsText}
 use Rattle.plan_names.specs.declared.wider.widenings.widening.Widening.{Widening}
@@ -19,14 +20,14 @@ abbrev pub with_all_members : SelectionText → SelectionText
 with_all_members s = record { packages = all_members; features = s.features; all_features = s.all_features; no_default_features = s.no_default_features; split = s.split }
 
 abbrev pub select : SelectionText → WordsText → WordsText
-select s words = record { selection = s; test = words.test; host = words.host; targets = words.targets }
+select s words = record { selection = s; choice = words.choice; host = words.host; targets = words.targets }
 
 abbrev pub with_tests : WordsText → WordsText
-with_tests words = record { selection = words.selection; test = true; host = words.host; targets = words.targets }
+with_tests words = record { selection = words.selection; choice = tested words.choice; host = words.host; targets = words.targets }
 
 -- With this platform as the host and as the only target.
 abbrev pub on_platform : (Text → Bool) → WordsText → WordsText
-on_platform every words = record { selection = words.selection; test = words.test; host = every; targets = every ∷ [] }
+on_platform every words = record { selection = words.selection; choice = words.choice; host = every; targets = every ∷ [] }
 
 -- The widened words. `every` is which platform specs hold on every platform that the workspace names.
 abbrev pub widened : (Text → Bool) → Widening → WordsText → WordsText
@@ -47,6 +48,6 @@ is_all (all_but words) = false
 abbrev pub adds : Widening → WordsText → Bool
 adds widening.AllFeatures words = not words.selection.all_features || words.selection.no_default_features
 adds widening.AllMembers words = not (is_all words.selection.packages)
-adds widening.Tests words = not words.test
+adds widening.Tests words = not words.choice.test
 adds widening.EveryPlatform words = true
 adds widening.Together words = true

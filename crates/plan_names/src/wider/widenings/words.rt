@@ -9,6 +9,7 @@ ghost use Rattle.plan_names.specs.wider.widenings.Widenings as spec;
 use crate::wider::widenings::widening::Widening;
 use cargo_plans::{PackageChoice, PlanWords, Selection};
 use plan_rows::platforms::HeldSpecs;
+use plan_words::choice_with_tests;
 use std::slice;
 
 /// Returns `selection` with all features of the selected members.
@@ -39,20 +40,20 @@ fn with_all_members(selection: Selection<'_>) -> Selection<'_>
 
 /// Returns `words` with another selection.
 fn select<'w, 'n, 's>(
-    words: &PlanWords<'_, 'n, HeldSpecs<'s>>,
+    words: &PlanWords<'w, 'n, HeldSpecs<'s>>,
     selection: Selection<'w>,
 ) -> PlanWords<'w, 'n, HeldSpecs<'s>>
     ensures { words_text holds_on result ≡ spec.select (selection_text selection.entry) (words_text holds_on words.now) }
 {
     PlanWords {
         selection,
-        test: words.test,
+        choice: words.choice,
         host: words.host,
         targets: words.targets,
     }
 }
 
-/// Returns `words` with tests.
+/// Returns `words` for the build of `cargo test`.
 fn with_tests<'w, 'n, 's>(
     words: &PlanWords<'w, 'n, HeldSpecs<'s>>,
 ) -> PlanWords<'w, 'n, HeldSpecs<'s>>
@@ -60,7 +61,7 @@ fn with_tests<'w, 'n, 's>(
 {
     PlanWords {
         selection: words.selection,
-        test: true,
+        choice: choice_with_tests(words.choice),
         host: words.host,
         targets: words.targets,
     }
@@ -75,7 +76,7 @@ fn on_platform<'w, 'n, 's>(
 {
     PlanWords {
         selection: words.selection,
-        test: words.test,
+        choice: words.choice,
         host: every,
         targets: slice::from_ref(every),
     }
@@ -121,7 +122,7 @@ pub fn adds(words: &PlanWords<'_, '_, HeldSpecs<'_>>, widening: Widening) -> boo
     match widening {
         Widening::AllFeatures => !selection.all_features || selection.no_default_features,
         Widening::AllMembers => !has_all_members(selection),
-        Widening::Tests => !words.test,
+        Widening::Tests => !words.choice.test,
         Widening::EveryPlatform | Widening::Together => true,
     }
 }

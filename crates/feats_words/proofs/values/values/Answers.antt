@@ -4,7 +4,7 @@ use Rattle.std.specs.Prelude.{unwrap_or}
 use Rattle.clap.proofs.WalkLemmas.{raw_values-rows}
 use Rattle.clap.specs.Words.{found_of}
 use Rattle.feats_words.specs.Requests.{texts}
-use Rattle.feats_words.proofs.request.values.Goals as goal
+use Rattle.feats_words.proofs.values.values.Goals as goal
 
 pub returns-in-None : goal.returns-in-None
 returns-in-None c =
