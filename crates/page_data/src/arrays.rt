@@ -52,8 +52,8 @@ fn bracketed(alloc: Global, lines: &[u8]) -> Result<Vec<u8>, AllocError>
     Ok(text)
 }
 
-/// Returns the array of the elements in `lines`, which are one in each line: `[` and a line feed, the lines with a comma after each but
-/// the last, and `]`. Each line ends with a line feed. An allocation's failure is the only error.
+/// Returns the array of the elements in `lines`, one on each line: `[` and a line feed, the lines with a comma after each but the
+/// last, and `]`. Each line ends with a line feed. An allocation's failure is the only error.
 pub fn array_of_lines(alloc: Global, lines: &[u8]) -> Result<Vec<u8>, AllocError>
     ensures text { IfOk result (λ text. text.items ≡ spec.array_of_lines lines.now) }
     ensures elements { IfOk result (λ text. (elements : List (List ℕ)) → list_any spec.has_feed elements ≡ false → lines.now ≡ flat_map spec.line_of elements → text.items ≡ spec.array_of elements) }

@@ -45,8 +45,8 @@ fn push_separator(text: &mut Vec<u8>, third: u8) -> Result<(), AllocError>
     }
 }
 
-/// Appends the character that begins `first` and `after`, or its escape; of a character without one it may be the first byte alone.
-/// Returns the bytes that are left.
+/// Appends the character that begins `first` and `after`, or its escape. If the character has no escape, only its first byte may be
+/// appended. Returns the bytes that are left.
 fn push_first<'t>(text: &mut Vec<u8>, first: u8, after: &'t [u8]) -> Result<&'t [u8], AllocError>
     ensures left { IfOk result (λ left. length left.now ≤ length after.entry.now) }
     ensures text { IfOk result (λ left. text.new.items ++ spec.page_safe left.now ≡ text.old.items ++ spec.page_safe (first ∷ after.entry.now)) }
@@ -75,8 +75,9 @@ fn escaped(alloc: Global, json: &[u8]) -> Result<Vec<u8>, AllocError>
     Ok(text)
 }
 
-/// Returns JSON with the value of `json`, in which `<`, `>`, `&`, U+2028 and U+2029 are written as escapes such as `\u003c`. In JSON they
-/// are in strings alone. So the text can't end an element of a page. An allocation's failure is the only error.
+/// Returns JSON with the value of `json`, in which `<`, `>`, `&`, U+2028 and U+2029 are written as escapes such as `\u003c`. In JSON
+/// these characters occur only in strings, so the value is the same. The text can't end an element of a page. An allocation's failure
+/// is the only error.
 pub fn page_safe(alloc: Global, json: &[u8]) -> Result<Vec<u8>, AllocError>
     ensures text { IfOk result (λ text. text.items ≡ spec.page_safe json.now) }
     ensures safe { IfOk result (λ text. list_any spec.is_markup text.items ≡ false) }

@@ -149,8 +149,8 @@ pub fn why_by_places<T: EdgeTable>(
 ///
 /// The result is an explanation for the same edges, initial nodes and offers. If `steps` aren't an explanation,
 /// the result is unspecified. The time is linear in the nodes and the steps, plus that of `why_by_places`, which
-/// answers for many nodes by places that are made once. Allocates a place per node, and the list. `AllocError` is returned when
-/// an allocation fails.
+/// answers for many nodes by places that are made once. Allocates a place per node, and the list. `AllocError` is
+/// returned when an allocation fails.
 pub fn why<T: EdgeTable>(
     alloc: Global,
     table: &T,
