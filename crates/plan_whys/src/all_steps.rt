@@ -112,7 +112,7 @@ pub fn explanation<'p, P: Platform>(
             let whys = explanation_by_settings(alloc, workspace, &settings, plan)?;
             Ok(whys)
         }
-        // (words that have a plan are never refused, so an allocation failed)
+        // Words that have a plan are never refused, so an allocation failed.
         Err(_) => Err(AllocError),
     }
 }

@@ -92,7 +92,7 @@ pub fn why<'p, P: Platform>(
             let found = why_by_settings(alloc, workspace, &settings, plan, at)?;
             Ok(found)
         }
-        // (words that have a plan are never refused, so an allocation failed)
+        // Words that have a plan are never refused, so an allocation failed.
         Err(_) => Err(AllocError),
     }
 }
@@ -138,7 +138,7 @@ pub fn why_each<'p, P: Platform>(
             let founds = why_each_by_settings(alloc, workspace, &settings, plan, spots)?;
             Ok(founds)
         }
-        // (words that have a plan are never refused, so an allocation failed)
+        // Words that have a plan are never refused, so an allocation failed.
         Err(_) => Err(AllocError),
     }
 }
