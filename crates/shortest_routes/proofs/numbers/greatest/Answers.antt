@@ -6,7 +6,7 @@ loop-number-init c = λ n h. absurd (none_in n h)
 
 pub loop-number-preserved : goal.loop-number-preserved
 loop-number-preserved c =
-    greatest_more c.args.numbers.now c.loop-number.number-index c.loop-number.greatest c.larger.result c.loop-number-test.true c.loop-number.invariant c.larger.ensures
+    greatest_more c.args.numbers.now c.loop-number.number-index c.loop-number.greatest c.larger-greatest.result c.loop-number-test.true c.loop-number.invariant c.larger-greatest.ensures
 
 pub returns : goal.returns
 returns c = λ n h. c.loop-number.invariant n (all_taken c.args.numbers.now c.loop-number.number-index n c.loop-number-test.false h)
