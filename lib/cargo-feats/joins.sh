@@ -46,11 +46,11 @@ decode() {
 
 # Sets `member` to the member that the word names. Ends if there is none.
 find_member() {
-  local LC_ALL=C line decoded names='' head='^\{"name":"([^"\\]*)","version":"([^"\\]*)","id":"(([^"\\]|\\.)*)",'
+  local LC_ALL=C line decoded names=() head='^\{"name":"([^"\\]*)","version":"([^"\\]*)","id":"(([^"\\]|\\.)*)",'
   document --no-deps >"$room/members" || cargo_failed
   while IFS= read -r line; do
     [[ $line =~ $head ]] || continue
-    names+=", \`${BASH_REMATCH[1]}\`"
+    names+=("${BASH_REMATCH[1]}")
     decode "${BASH_REMATCH[3]}"
     case $join_word in
       "${BASH_REMATCH[1]}" | "${BASH_REMATCH[1]}@${BASH_REMATCH[2]}" | "$decoded")
@@ -62,7 +62,7 @@ find_member() {
         ;;
     esac
   done < <(sed -E 's/\{"name":"[^"\\]*","version":"[^"\\]*","id":"/\n&/g' "$room/members")
-  fail "no member of the workspace is \`$join_word\`: the members are ${names#, }"
+  fail "no member of the workspace is \`$join_word\`: the members are $(listed "${names[@]}")"
 }
 
 # Prints the number of the first line of the document with a text. Returns whether there is one.
