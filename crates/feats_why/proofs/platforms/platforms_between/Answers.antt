@@ -1,5 +1,5 @@
 use Rattle.std.proofs.Common.{◌∙◌, ap}
-use Rattle.std.proofs.lemmas.Result.{if_ok_weaker}
+use Rattle.std.proofs.lemmas.Result.{IfOk-weaker}
 use Rattle.plan_rows.specs.Steps.{is_macro}
 use Rattle.plan_whys.specs.StepViews.{spot_text}
 use Rattle.feats_why.specs.Platforms.{counts_at, platforms_by}
@@ -14,7 +14,7 @@ returns g c =
     let packages = c.args.leads.now in
     let start = spot_text c.args.start in
     let at = spot_text c.args.at in
-    if_ok_weaker c.platforms_by.result (λ platforms is.
+    IfOk-weaker c.platforms_by.result _ _ (λ platforms is.
     is
     ∙ ap (λ m. platforms_by (counts_at settings m start at) (declared c.declarations.result.now)) (c.is_macro_at.ensures ∙ ap (λ ps. is_macro ps at.number) c.packages.ensures)
     ∙ ap (λ ds. platforms_by (counts_at settings (is_macro packages at.number) start at) ds) c.declarations.ensures

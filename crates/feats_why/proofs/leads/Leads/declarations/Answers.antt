@@ -1,4 +1,4 @@
-use Rattle.std.proofs.Common.{◌∙◌, ap, sym, [], map}
+use Rattle.std.proofs.Common.{◌∙◌, ap, [], map}
 use Rattle.std.specs.Option.{option_map_or}
 use Rattle.std.specs.Prelude.{slice_get}
 use Rattle.cargo_workspaces.specs.Views.{package_text}
