@@ -14,5 +14,5 @@ pub use cuts::{limit_of, with_cut_line, with_cut_object};
 pub use lines::branch_lines;
 pub use objects::branch_objects;
 pub use reversals::reversed;
-pub use titles::Title;
+pub use titles::{At, Detail, Title};
 pub use trees::{Branch, Trees, branches};
