@@ -17,7 +17,8 @@ page() {
     /^With the manifests/,/--member-manifests/d
     1s/^Prints the data of the page that `cargo feats report` writes, as JSON$/Writes a page about the build, for a browser/
     s/^( +--report  +)Print the data of the page that .*/\1Write a page about what differs, for a browser/
-    /^The data has the parts of /d
+    /^The data has the objects of /d
+    /^No `<`, `>` or `&` is in it/d
     /^`--format text` and `--format json` print the same/d
     s/^(  feats report .*) >server\.json$/\1 -o server.html/
     /^  (cargo metadata|rustc) /d
