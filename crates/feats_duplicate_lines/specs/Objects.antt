@@ -7,7 +7,7 @@ use Rattle.feats_duplicate_lines.specs.Lines.{manifest_line}
 use Rattle.feats_duplicate_lines.specs.Shown.{ShownText, version, in_place, alone, joined, refused, kind_of, package_of}
 
 abbrev pub head : Text → PackageText → List Token
-head kind p = text_member (codes "kind") kind ++ (text_member (codes "id") p.id ++ (text_member (codes "name") p.name ++ text_member (codes "version") p.version))
+head kind p = text_member (codes "kind") kind ++ (text_member (codes "package") p.id ++ (text_member (codes "name") p.name ++ text_member (codes "version") p.version))
 
 abbrev pub place_members : Text → List Text → List Token
 place_members place features = text_member (codes "place") place ++ texts_member (codes "features") features

@@ -18,7 +18,7 @@ fn write_head(writer: &mut Writer, kind: &str, package: &Package<'_>) -> Result<
     ensures { OnOk result (Appends writer.old writer.new (spec.head kind.now (package_text «package».now))) }
 {
     write_member(writer, "kind", kind)?;
-    write_member(writer, "id", package.id)?;
+    write_member(writer, "package", package.id)?;
     write_member(writer, "name", package.name)?;
     write_member(writer, "version", package.version)
 }

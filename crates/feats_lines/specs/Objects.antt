@@ -10,7 +10,7 @@ abbrev pub member : Text → Text → List Token
 member name value = key name ∷ string value ∷ []
 
 abbrev pub head_tokens : ShownText → List Token
-head_tokens u = member (codes "place") u.place ++ (member (codes "id") u.described.id ++ (member (codes "name") u.described.name ++ member (codes "version") u.described.version))
+head_tokens u = member (codes "place") u.place ++ (member (codes "package") u.described.id ++ (member (codes "name") u.described.name ++ member (codes "version") u.described.version))
 
 abbrev pub feature_tokens : List Text → List Token
 feature_tokens features = key (codes "features") ∷ begin_array ∷ (map string features ++ end_array ∷ [])

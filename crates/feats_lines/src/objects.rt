@@ -18,12 +18,12 @@ fn write_member(writer: &mut Writer, name: &str, value: &str) -> Result<(), Allo
     writer.string(value)
 }
 
-/// Writes the place, the id, the name and the version of `unit`.
+/// Writes the place of `unit`, and the id, the name and the version of its package.
 fn write_head(writer: &mut Writer, unit: &Shown<'_, '_, '_>) -> Result<(), AllocError>
     ensures { OnOk result (Appends writer.old writer.new (spec.head_tokens (shown_text unit.now))) }
 {
     write_member(writer, "place", unit.place)?;
-    write_member(writer, "id", unit.package.id)?;
+    write_member(writer, "package", unit.package.id)?;
     write_member(writer, "name", unit.package.name)?;
     write_member(writer, "version", unit.package.version)
 }
@@ -69,7 +69,7 @@ fn push_object(text: Vec<u8>, unit: &Shown<'_, '_, '_>) -> Result<Vec<u8>, Alloc
     Ok(text)
 }
 
-/// Returns a line for each of `units`: a JSON object with its place, id, name, version and features.
+/// Returns a line for each of `units`: a JSON object with its place, the id, name and version of its package, and its features.
 pub fn objects_of(alloc: Global, units: &[Shown<'_, '_, '_>]) -> Result<Vec<u8>, AllocError>
     ensures { IfOk result (λ text. text.items ≡ spec.plan_objects (map shown_text units.now)) }
 {

@@ -3,7 +3,7 @@ use Rattle.std.proofs.Common.{◌≡◌, ◌∙◌, sym, ap, ℕ, ◌+◌, ◌<�
 use Rattle.std.proofs.lemmas.List.{drop_more}
 use Rattle.cargo_plans.specs.plan_starts.Lists.{joined_from}
 
--- one more item, and what is joined for it
+-- `joined_from` of a list with one more item at its end
 pub joined_more : {X Y Z : Type 0} (g : X → Y) (f : ℕ → Y → List Z) (xs : List X) (i : ℕ) (x : X) (all so_far new : List Z) → i < length xs → x ≡ get_or xs i x
     → all ≡ so_far ++ joined_from f i (map g (drop i xs)) → new ≡ so_far ++ f i (g x) → all ≡ new ++ joined_from f (i + 1) (map g (drop (i + 1) xs))
 joined_more g f xs i x all so_far new within is so grown =

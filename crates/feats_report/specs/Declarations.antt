@@ -3,19 +3,13 @@ use Rattle.std.specs.Prelude.{ℕ, List, [], ◌∷◌, ◌++◌, Bool, Option, 
 use Rattle.std.specs.Option.{option_map_or}
 use Rattle.json.specs.Token.{Token, begin_object}
 use Rattle.cargo_workspaces.specs.Workspaces.{DeclarationText, PackageText, Text}
-use Rattle.cargo_workspaces.specs.declared.package.Kind.{Kind}
-use Rattle.cargo_workspaces.specs.declared.package.Kind.TheVariants as kind
 use Rattle.cargo_plans.specs.built_parts.Built.{is_built}
 use Rattle.cargo_plans.specs.plan_starts.Lists.{joined_from}
 use Rattle.cargo_plans.specs.plan_steps.Plans.{PlanText}
 use Rattle.plan_rows.specs.declared.side.Side.{Side}
+use Rattle.feats_lines.specs.Kinds.{kind_word}
 use Rattle.feats_lines.specs.parts.Members.{flag_member, object_line, optional_member, text_member, texts_member}
 use Rattle.feats_report.specs.Features.{is_anywhere}
-
-abbrev pub kind_word : Kind → Text
-kind_word kind.Normal = codes "normal"
-kind_word kind.Build = codes "build"
-kind_word kind.Development = codes "dev"
 
 -- When the declaration counts.
 abbrev pub condition_members : DeclarationText → List Token

@@ -12,4 +12,4 @@ member_after m = codes ",\n\"" ++ (m.name ++ (codes "\":" ++ m.value))
 
 -- The object of the version and these members, and a line feed.
 abbrev pub object_text : List MemberText → List ℕ
-object_text members = codes "{\"version\":1" ++ (flat_map member_after members ++ codes "}\n")
+object_text members = codes "{\"version\":2" ++ (flat_map member_after members ++ codes "}\n")

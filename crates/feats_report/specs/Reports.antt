@@ -45,13 +45,13 @@ data_text p = page_safe (object_text (
 abbrev pub roots_text : PlanText → Text
 roots_text plan = print (number_tokens (root_units plan))
 
--- The text is the array of the links between units: pairs of their numbers, of which the first depends on the second.
+-- `text` is the array of the links between units, as pairs of their numbers. The first unit of a pair depends on the second.
 pub record IsLinksText (plan : PlanText) (text : Text) : Type 0 where
   pub links : List (ℕ × ℕ)
   pub are_links : AreUnitLinks plan links
   pub is_text : text ≡ print (pairs_tokens links)
 
--- The text is the array of the steps of one explanation, which explains exactly what is on: a reason names spots of earlier steps alone.
+-- `text` is the array of the steps of one explanation of exactly what is on. The reason of a step names spots of earlier steps alone.
 pub record IsStepsText (w : WorkspaceText) (words : WordsText) (plan : PlanText) (text : Text) : Type 0 where
   pub whys : List WhyText
   pub is_explanation : IsExplanationBy w words plan.on whys

@@ -3,32 +3,23 @@ ghost use Rattle.std.specs.Prelude.{◌≡◌, ◌++◌, [], IfOk, OnOk, codes, 
 ghost use Rattle.std.specs.Option.{option_map_or};
 ghost use Rattle.cargo_plans.specs.built_parts.BuiltViews.{builds_in};
 ghost use Rattle.cargo_workspaces.specs.Views.{declaration_text, package_text};
+ghost use Rattle.feats_lines.specs.Kinds.{kind_word as word_of};
 ghost use Rattle.feats_lines.specs.parts.Members.{Appends, text_member};
 ghost use Rattle.feats_report.specs.Declarations as spec;
 
 use crate::features::is_anywhere;
 use cargo_plans::built_parts::BuiltParts;
 use cargo_workspaces::{Declaration, Kind, Package};
+use feats_lines::kind_word;
 use feats_lines::parts::{
     begin_line, end_line, write_flag, write_member, write_optional, write_texts,
 };
 use json::Writer;
 use std::alloc::{AllocError, Global};
 
-/// Returns the word for a declaration of kind `kind`.
-fn kind_word(kind: Kind) -> &'static str
-    ensures { result.now ≡ spec.kind_word kind }
-{
-    match kind {
-        Kind::Normal => "normal",
-        Kind::Build => "build",
-        Kind::Development => "dev",
-    }
-}
-
 /// Writes `kind`, the kind of a declaration.
 fn write_kind(writer: &mut Writer, kind: Kind) -> Result<(), AllocError>
-    ensures { OnOk result (Appends writer.old writer.new (text_member (codes "kind") (spec.kind_word kind))) }
+    ensures { OnOk result (Appends writer.old writer.new (text_member (codes "kind") (word_of kind))) }
 {
     write_member(writer, "kind", kind_word(kind))
 }

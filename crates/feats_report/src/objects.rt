@@ -47,7 +47,7 @@ fn object_text(alloc: Global, members: &[Member<'_>]) -> Result<Vec<u8>, AllocEr
     ensures { IfOk result (λ text. text.items ≡ spec.object_text (map member_text members.now)) }
 {
     let mut text = Vec::new(alloc);
-    push_str(&mut text, "{\"version\":1")?;
+    push_str(&mut text, "{\"version\":2")?;
     push_members(&mut text, members)?;
     push_str(&mut text, "}\n")?;
     Ok(text)

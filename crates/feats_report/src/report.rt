@@ -131,10 +131,8 @@ fn data_of(alloc: Global, parts: Parts<'_>) -> Result<Vec<u8>, AllocError>
     page_object(alloc, &members)
 }
 
-/// Returns the data of a page about `plan`, which is that of `words`, as one JSON value and a line feed: the objects of the units in
-/// `units` and of the platform specs in `specs`, a line each; which units the selection starts, and which depend on which; the
-/// declarations between the packages that are built; why everything that is on is on; and the features of the packages that are built. No
-/// byte is `<`, `>` or `&`. An allocation's failure is the only error.
+/// Returns the data of a page about `plan`, the plan of `words`: one JSON value and a line feed. `units` and `specs` are lines of JSON
+/// objects. No byte is `<`, `>` or `&`. An allocation's failure is the only error.
 pub fn report_text<P: Platform>(
     alloc: Global,
     workspace: &Workspace<'_>,

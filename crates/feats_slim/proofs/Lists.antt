@@ -7,7 +7,7 @@ use Rattle.plan_starts.specs.Lists.{joined_from}
 cut_at : {X : Type 0} (xs : List X) (i : ℕ) (x : X) → i < length xs → x ≡ get_or xs i x → drop i xs ≡ x ∷ drop (i + 1) xs
 cut_at xs i x within is = rw (add-one) (drop-cons xs i x within ∙ ap (λ y. y ∷ drop (suc i) xs) (sym is))
 
--- one more item, and what is joined for it
+-- `joined_from` of a list with one more item at its end
 pub joined_more : {X Y Z : Type 0} (g : X → Y) (f : ℕ → Y → List Z) (xs : List X) (i : ℕ) (x : X) (all so_far new : List Z) → i < length xs → x ≡ get_or xs i x
     → all ≡ so_far ++ joined_from f i (map g (drop i xs)) → new ≡ so_far ++ f i (g x) → all ≡ new ++ joined_from f (i + 1) (map g (drop (i + 1) xs))
 joined_more g f xs i x all so_far new within is so grown =

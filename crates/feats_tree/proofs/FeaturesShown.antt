@@ -5,7 +5,7 @@ use Rattle.std.specs.Global.{Vec}
 use Rattle.std.proofs.lemmas.Result.{IfOk-weaker}
 use Rattle.cargo_workspaces.specs.Workspaces.{PackageText, Text}
 use Rattle.feats_words.specs.declared.command_arguments.Format.{Format}
-use Rattle.feats_tree.specs.trees.Titles.{TitleText}
+use Rattle.feats_tree.specs.trees.Titles.{DetailText, TitleText}
 use Rattle.feats_tree.specs.dots.Dots.{NodeText, dot_text}
 use Rattle.plan_whys.specs.links.SpotLinks.{AreSpotLinks, AreSpotsOn}
 use Rattle.cargo_plans.specs.plan_steps.Plans.{PlanText}
@@ -42,9 +42,9 @@ module _ {E : Type 0} (r : Result (Vec ℕ) E) where
 
   -- Trees.
 
-  pub titled_by : (form : Format) (links : List (ℕ × ℕ)) (roots : List ℕ) (limit : Option ℕ) (titles ids : List Text) (all : List TitleText) → titles_with titles ids ≡ all
-      → IfOk r (λ text. IsTreeText form links roots limit (titles_with titles ids) text.items) → IfOk r (λ text. IsTreeText form links roots limit all text.items)
-  titled_by form links roots limit titles ids all same is = subst (λ (ts : List TitleText). IfOk r (λ text. IsTreeText form links roots limit ts text.items)) same is
+  pub titled_by : (form : Format) (links : List (ℕ × ℕ)) (roots : List ℕ) (limit : Option ℕ) (titles : List Text) (details : List DetailText) (all : List TitleText) → titles_with titles details ≡ all
+      → IfOk r (λ text. IsTreeText form links roots limit (titles_with titles details) text.items) → IfOk r (λ text. IsTreeText form links roots limit all text.items)
+  titled_by form links roots limit titles details all same is = subst (λ (ts : List TitleText). IfOk r (λ text. IsTreeText form links roots limit ts text.items)) same is
 
   pub tree_over : (form : Format) (links new_links : List (ℕ × ℕ)) (roots new_roots : List ℕ) (limit : Option ℕ) (titles : List TitleText) → links ≡ new_links → roots ≡ new_roots
       → IfOk r (λ text. IsTreeText form links roots limit titles text.items) → IfOk r (λ text. IsTreeText form new_links new_roots limit titles text.items)

@@ -1,4 +1,5 @@
 pub mod Counted
+pub mod FirstLemmas
 pub mod Lists
 pub mod Places
 pub mod Reached

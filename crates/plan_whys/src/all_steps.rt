@@ -32,7 +32,7 @@ use plan_words::choose;
 use std::alloc::{AllocError, Global};
 use walk_engine::Step;
 
-/// Returns `steps` by spots. `steps` is the explanation of the visit, from `initials`.
+/// Returns `steps` with spots in place of nodes. `steps` is the explanation of the visit, from `initials`.
 fn all_steps_of<'p>(
     alloc: Global,
     on: &'p PackageVisit,
@@ -112,6 +112,7 @@ pub fn explanation<'p, P: Platform>(
             let whys = explanation_by_settings(alloc, workspace, &settings, plan)?;
             Ok(whys)
         }
+        // Words that have a plan are never refused, so an allocation failed.
         Err(_) => Err(AllocError),
     }
 }

@@ -185,6 +185,7 @@ pub fn last_step_each<'p, P: Platform>(
             let lasts = last_steps_by_settings(alloc, workspace, &settings, plan, spots)?;
             Ok(lasts)
         }
+        // Words that have a plan are never refused, so an allocation failed.
         Err(_) => Err(AllocError),
     }
 }

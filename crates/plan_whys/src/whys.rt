@@ -92,6 +92,7 @@ pub fn why<'p, P: Platform>(
             let found = why_by_settings(alloc, workspace, &settings, plan, at)?;
             Ok(found)
         }
+        // Words that have a plan are never refused, so an allocation failed.
         Err(_) => Err(AllocError),
     }
 }
@@ -137,6 +138,7 @@ pub fn why_each<'p, P: Platform>(
             let founds = why_each_by_settings(alloc, workspace, &settings, plan, spots)?;
             Ok(founds)
         }
+        // Words that have a plan are never refused, so an allocation failed.
         Err(_) => Err(AllocError),
     }
 }

@@ -16,7 +16,8 @@ use cargo_workspaces::Workspace;
 use plan_rows::{Platform, Settings, Side};
 use std::alloc::{AllocError, Global};
 
-/// Returns the first of `selected` whose tests can't be built, if the build is that of `cargo test`. An allocation's failure is the only error.
+/// Returns the first of `selected` whose tests can't be built, if the build is that of `cargo test`. An allocation's failure is the only
+/// error.
 #[tactic(auto, unfolding(crate::specs::plan_steps::Plans::without_tests))]
 pub(crate) fn without_tests<P: Platform>(
     alloc: Global,

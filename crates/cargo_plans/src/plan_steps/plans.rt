@@ -41,8 +41,8 @@ fn planned<'w>(
     }
 }
 
-/// Returns the plan of the `selected` packages, whose tests can be built and which have targets for each word: `kept` and `on` are the visits of the first two steps, and
-/// `ids` has at least one id for each package in each place.
+/// Returns the plan of the `selected` packages, whose tests can be built and which have targets for each word: `kept` and `on` are the
+/// visits of the first two steps, and `ids` has at least one id for each package in each place.
 fn plan_of_visits<'w, P: Platform>(
     alloc: Global,
     ids: &Ids,
@@ -64,8 +64,8 @@ fn plan_of_visits<'w, P: Platform>(
     planned(on, built)
 }
 
-/// Returns the plan of the `selected` packages, whose tests can be built and which have targets for each word: `kept` is the visit of step `resolved`, and `ids` has at least
-/// one id for each entry of each step.
+/// Returns the plan of the `selected` packages, whose tests can be built and which have targets for each word: `kept` is the visit of
+/// step `resolved`, and `ids` has at least one id for each entry of each step.
 fn plan_of_kept<'w, P: Platform>(
     alloc: Global,
     ids: &Ids,
@@ -90,7 +90,8 @@ fn plan_of_kept<'w, P: Platform>(
     }
 }
 
-/// Returns the plan of the `selected` packages, whose tests can be built and which have targets for each word: `ids` has at least one id for each entry of each step.
+/// Returns the plan of the `selected` packages, whose tests can be built and which have targets for each word: `ids` has at least one id
+/// for each entry of each step.
 fn plan_of_steps<'w, P: Platform>(
     alloc: Global,
     ids: &Ids,

@@ -10,7 +10,7 @@ use Rattle.feats_diff.specs.texts.Titles.{is_same}
 -- The kind of the difference, the place and the package.
 abbrev pub head : Text → ShownText → List Token
 head kind s = text_member (codes "difference") kind ++ (text_member (codes "place") s.place
-    ++ (text_member (codes "id") s.described.id ++ (text_member (codes "name") s.described.name ++ text_member (codes "version") s.described.version)))
+    ++ (text_member (codes "package") s.described.id ++ (text_member (codes "name") s.described.name ++ text_member (codes "version") s.described.version)))
 
 -- A package that changes its version or its source, or its features alone.
 abbrev pub kind_of : PackageText → PackageText → Text
@@ -18,7 +18,7 @@ kind_of old new = if is_same old new then codes "features" else codes "version"
 
 -- The package as it was.
 abbrev pub old_members : PackageText → List Token
-old_members p = text_member (codes "old-id") p.id ++ text_member (codes "old-version") p.version
+old_members p = text_member (codes "old-package") p.id ++ text_member (codes "old-version") p.version
 
 -- The features that come, with the last step of each `why`, and those that go.
 abbrev pub feature_members : List TurnedText → List Text → List Token

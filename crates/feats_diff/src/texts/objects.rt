@@ -20,7 +20,7 @@ fn write_head(writer: &mut Writer, kind: &str, shown: &Shown<'_, '_, '_>) -> Res
 {
     write_member(writer, "difference", kind)?;
     write_member(writer, "place", shown.place)?;
-    write_member(writer, "id", shown.package.id)?;
+    write_member(writer, "package", shown.package.id)?;
     write_member(writer, "name", shown.package.name)?;
     write_member(writer, "version", shown.package.version)
 }
@@ -29,7 +29,7 @@ fn write_head(writer: &mut Writer, kind: &str, shown: &Shown<'_, '_, '_>) -> Res
 fn write_old(writer: &mut Writer, old: &Package<'_>) -> Result<(), AllocError>
     ensures { OnOk result (Appends writer.old writer.new (spec.old_members (package_text old.now))) }
 {
-    write_member(writer, "old-id", old.id)?;
+    write_member(writer, "old-package", old.id)?;
     write_member(writer, "old-version", old.version)
 }
 

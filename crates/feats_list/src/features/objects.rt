@@ -1,18 +1,16 @@
 //! The features of a package as JSON objects.
-ghost use Rattle.std.specs.Prelude.{◌≡◌, ◌++◌, IfOk, OnOk, map, option_map};
+ghost use Rattle.std.specs.Prelude.{◌≡◌, ◌++◌, IfOk, OnOk, codes, map, option_map};
 ghost use Rattle.cargo_plans.specs.built_parts.BuiltViews.{is_built_in};
 ghost use Rattle.cargo_workspaces.specs.Views.{package_text};
 ghost use Rattle.feature_labels.specs.Names.{label_of};
 ghost use Rattle.feats_list.specs.features.Objects as spec;
 ghost use Rattle.feats_list.specs.features.inner.Listed.{listed_text};
-ghost use Rattle.feats_lines.specs.parts.Members.{Appends};
+ghost use Rattle.feats_lines.specs.parts.Members.{Appends, texts_member};
 
 use crate::features::listed::{Listed, listed_package};
 use cargo_plans::built_parts::BuiltParts;
 use cargo_workspaces::Package;
-use feats_lines::parts::{
-    begin_line, end_line, write_flag, write_member, write_optional, write_texts,
-};
+use feats_lines::parts::{begin_line, end_line, write_member, write_optional, write_texts};
 use feature_labels::FeatureLabel;
 use json::Writer;
 use std::alloc::{AllocError, Global};
@@ -41,9 +39,21 @@ fn dependency_name(label: FeatureLabel<'_>) -> Option<&str>
 fn write_package(writer: &mut Writer, package: &Package<'_>) -> Result<(), AllocError>
     ensures { OnOk result (Appends writer.old writer.new (spec.package_members (package_text «package».now))) }
 {
-    write_member(writer, "id", package.id)?;
+    write_member(writer, "package", package.id)?;
     write_member(writer, "name", package.name)?;
     write_member(writer, "version", package.version)
+}
+
+/// Writes the sides on which a label is built.
+fn write_sides(writer: &mut Writer, target: bool, host: bool) -> Result<(), AllocError>
+    ensures { OnOk result (Appends writer.old writer.new (texts_member (codes "sides") (spec.side_words target host))) }
+{
+    match (target, host) {
+        (true, true) => write_texts(writer, "sides", &["target", "host"]),
+        (true, false) => write_texts(writer, "sides", &["target"]),
+        (false, true) => write_texts(writer, "sides", &["host"]),
+        (false, false) => write_texts(writer, "sides", &[]),
+    }
 }
 
 /// Writes the name of `listed`, on which sides it is built, and its items.
@@ -52,8 +62,7 @@ fn write_listed(writer: &mut Writer, listed: &Listed<'_, '_>) -> Result<(), Allo
 {
     write_optional(writer, "feature", feature_name(listed.label))?;
     write_optional(writer, "dependency", dependency_name(listed.label))?;
-    write_flag(writer, "target", listed.target)?;
-    write_flag(writer, "host", listed.host)?;
+    write_sides(writer, listed.target, listed.host)?;
     write_texts(writer, "items", listed.items)
 }
 

@@ -2,17 +2,11 @@
 use Rattle.std.specs.Prelude.{ℕ, List, ◌∷◌, ◌++◌, Option, Some, None, flat_map, codes}
 use Rattle.json.specs.Token.{Token, begin_object}
 use Rattle.cargo_workspaces.specs.Workspaces.{DeclarationText, PackageText, Text}
-use Rattle.cargo_workspaces.specs.declared.package.Kind.{Kind}
-use Rattle.cargo_workspaces.specs.declared.package.Kind.TheVariants as kind
+use Rattle.feats_lines.specs.Kinds.{kind_word}
 use Rattle.feats_lines.specs.parts.Members.{number_member, object_line, optional_member, text_member}
 use Rattle.feats_slim.specs.edits.Orders.{SlimText}
 use Rattle.cargo_manifests.specs.Edits.{WithoutText, defaults, feature}
 use Rattle.feats_slim.specs.answers.Shown.{ShownPlaceText, ShownText, all_shown, declared, inherited}
-
-abbrev pub kind_word : Kind → Text
-kind_word kind.Normal = codes "normal"
-kind_word kind.Build = codes "build"
-kind_word kind.Development = codes "dev"
 
 -- The id of the package, and its declaration.
 abbrev pub declared_members : PackageText → DeclarationText → List Token
@@ -40,7 +34,7 @@ without_members (feature name) = out_members (codes "feature") (Some name)
 
 -- The numbers of packages and features that fall away.
 abbrev pub number_members : ℕ → ℕ → List Token
-number_members packages features = number_member (codes "packages") packages ++ number_member (codes "features") features
+number_members packages features = number_member (codes "lost-packages") packages ++ number_member (codes "lost-features") features
 
 abbrev pub members : ShownText → List Token
 members s = place_members s.place ++ (without_members s.without ++ number_members s.packages s.features)

@@ -1,6 +1,7 @@
 //! Edits by which a build is smaller, as JSON objects.
 ghost use Rattle.std.specs.Prelude.{◌≡◌, ◌++◌, IfOk, OnOk, codes, map, flat_map, option_map};
 ghost use Rattle.cargo_workspaces.specs.Views.{declaration_text, package_text};
+ghost use Rattle.feats_lines.specs.Kinds.{kind_word as word_of};
 ghost use Rattle.feats_lines.specs.parts.Members.{Appends, text_member};
 ghost use Rattle.feats_slim.specs.edits.SlimViews.{slim_text};
 ghost use Rattle.cargo_manifests.specs.EditViews.{without_text};
@@ -10,24 +11,14 @@ ghost use Rattle.feats_slim.specs.answers.Views.{shown_place_text, shown_text};
 use crate::answers::shown::{Shown, ShownPlace, all_shown};
 use crate::edits::{Slim, Without};
 use cargo_workspaces::{Declaration, Kind, Package};
+use feats_lines::kind_word;
 use feats_lines::parts::{begin_line, end_line, write_member, write_number, write_optional};
 use json::Writer;
 use std::alloc::{AllocError, Global};
 
-/// Returns the word for a declaration of kind `kind`.
-fn kind_word(kind: Kind) -> &'static str
-    ensures { result.now ≡ spec.kind_word kind }
-{
-    match kind {
-        Kind::Normal => "normal",
-        Kind::Build => "build",
-        Kind::Development => "dev",
-    }
-}
-
 /// Writes `kind`, the kind of a declaration.
 fn write_kind(writer: &mut Writer, kind: Kind) -> Result<(), AllocError>
-    ensures { OnOk result (Appends writer.old writer.new (text_member (codes "kind") (spec.kind_word kind))) }
+    ensures { OnOk result (Appends writer.old writer.new (text_member (codes "kind") (word_of kind))) }
 {
     write_member(writer, "kind", kind_word(kind))
 }
@@ -91,8 +82,8 @@ fn write_without(writer: &mut Writer, without: Without<'_>) -> Result<(), AllocE
 fn write_numbers(writer: &mut Writer, packages: usize, features: usize) -> Result<(), AllocError>
     ensures { OnOk result (Appends writer.old writer.new (spec.number_members packages features)) }
 {
-    write_number(writer, "packages", packages)?;
-    write_number(writer, "features", features)
+    write_number(writer, "lost-packages", packages)?;
+    write_number(writer, "lost-features", features)
 }
 
 /// Writes the members of `shown`.

@@ -1,9 +1,9 @@
 -- The titles of the packages that a plan builds.
-use Rattle.std.specs.Prelude.{ℕ, List, [], ◌++◌, map, length, Option, None, Some, nat_lt, codes, slice_get, if◌then◌else◌}
+use Rattle.std.specs.Prelude.{ℕ, List, [], ◌++◌, map, length, Option, None, Some, nat_lt, codes, slice_get, unwrap_or, if◌then◌else◌}
 use Rattle.std.specs.List.{zip}
 use Rattle.std.specs.Option.{option_map_or}
 use Rattle.cargo_workspaces.specs.Workspaces.{Text, PackageText}
-use Rattle.feats_tree.specs.trees.Titles.{TitleText}
+use Rattle.feats_tree.specs.trees.Titles.{AtText, DetailText, TitleText, placed}
 use Rattle.feats_lines.specs.Lines.{label_of, name_of}
 use Rattle.cargo_plans.specs.plan_units.Units.{UnitText}
 use Rattle.cargo_plans.specs.declared.plan_units.unit.Place.{Place}
@@ -30,17 +30,33 @@ title_in names packages u p = label_of (map name_of packages) p ++ place_mark na
 abbrev pub unit_title : List Text → List PackageText → UnitText → Text
 unit_title names packages u = option_map_or (title_in names packages u) (slice_get packages u.number) []
 
--- The id of the package with this number; nothing, if there is none.
-abbrev pub id_at : List PackageText → ℕ → Text
-id_at packages p = option_map_or (λ x. x.id) (slice_get packages p) []
+-- What objects show of a package that is there.
+abbrev pub detail_of : AtText → PackageText → DetailText
+detail_of at p = record { id = p.id; name = p.name; version = p.version; at = at }
 
-abbrev pub titled : Text × Text → TitleText
-titled pair = record { title = pair.0; id = pair.1 }
+-- The same of no package.
+abbrev pub no_detail : AtText → DetailText
+no_detail at = record { id = []; name = []; version = []; at = at }
 
--- Titles with ids.
-abbrev pub titles_with : List Text → List Text → List TitleText
-titles_with titles ids = map titled (zip titles ids)
+-- The same of the package with this number, if there is one.
+abbrev pub detail_at : List PackageText → ℕ → AtText → DetailText
+detail_at packages p at = option_map_or (detail_of at) (slice_get packages p) (no_detail at)
 
--- The titles of units, with the ids of their packages.
+abbrev pub place_name : List Text → Place → Text
+place_name names place.Host = codes "host"
+place_name names (place.Target k) = unwrap_or (slice_get names k) []
+
+-- What objects show of a unit.
+abbrev pub unit_detail : List Text → List PackageText → UnitText → DetailText
+unit_detail names packages u = detail_at packages u.number (placed (place_name names u.place))
+
+abbrev pub titled : Text × DetailText → TitleText
+titled pair = record { title = pair.0; detail = pair.1 }
+
+-- Titles with details.
+abbrev pub titles_with : List Text → List DetailText → List TitleText
+titles_with titles details = map titled (zip titles details)
+
+-- The titles of units, and what objects show of them.
 abbrev pub unit_titles : List Text → List PackageText → List UnitText → List TitleText
-unit_titles names packages units = titles_with (map (unit_title names packages) units) (map (λ u. id_at packages u.number) units)
+unit_titles names packages units = titles_with (map (unit_title names packages) units) (map (unit_detail names packages) units)

@@ -35,8 +35,8 @@ fn asked_tree(
 }
 
 /// Returns the trees of the features that are on in `plan`: the roots are what the command line turns on, and below each is what it turns
-/// on. If `sides` is true, ` (host)` follows what is on for the host. `limit` is as in `titled_text`. Returns an error only if out of
-/// memory.
+/// on. If `sides` is true, ` (host)` follows what is on for the host. `limit` is the greatest depth that is shown, as in `titled_text`.
+/// Returns an error only if out of memory.
 pub fn feature_tree(
     alloc: Global,
     form: Format,
@@ -74,8 +74,8 @@ fn turned_tree(
 }
 
 /// Returns the trees of those of `wanted` that are on in `plan`, where below each spot is what turns it on. If `sides` is true, ` (host)`
-/// follows what is on for the host. `limit` is as in `titled_text`. The text is empty if no part is on. Returns an error only if out of
-/// memory.
+/// follows what is on for the host. `limit` is the greatest depth that is shown, as in `titled_text`. The text is empty if no part is on.
+/// Returns an error only if out of memory.
 pub fn inverted_feature_tree(
     alloc: Global,
     form: Format,

@@ -2,15 +2,16 @@
 ghost use Rattle.std.specs.Prelude.{◌≡◌, ◌++◌, IfOk, map, string_bytes};
 ghost use Rattle.cargo_workspaces.specs.Views.{package_text, texts};
 ghost use Rattle.feats_tree.specs.trees.Branches.{AreTrees};
-ghost use Rattle.feats_tree.specs.trees.Titles.{title_text};
+ghost use Rattle.feats_tree.specs.trees.Titles.{detail_text, title_text};
 ghost use Rattle.cargo_plans.specs.plan_units.UnitViews.{unit_text};
 ghost use Rattle.feats_tree.specs.packages.Titles.{titles_with as titles_by, unit_titles};
 ghost use Rattle.feats_tree.specs.packages.Trees as spec;
 
-use crate::packages::ids::{ids_of, titles_with};
+use crate::packages::details::{details_of, titles_with};
 use crate::packages::titles::titles_of;
 use crate::trees::{
-    Branch, Title, branch_lines, branch_objects, branches, limit_of, with_cut_line, with_cut_object,
+    Branch, Detail, Title, branch_lines, branch_objects, branches, limit_of, with_cut_line,
+    with_cut_object,
 };
 use cargo_plans::plan_steps::Unit;
 use cargo_workspaces::Package;
@@ -80,9 +81,9 @@ fn tree_text(
     with_end(form, text, limit, trees.is_cut)
 }
 
-/// Returns the trees of `roots` over `links`, as text or as JSON objects. Node `k` has the title and the id with number `k`. The trees have
-/// `limit` levels below the roots. Without `limit` they have 1,000, and a last line or object says if that hides links. Returns an error only
-/// if out of memory.
+/// Returns the trees of `roots` over `links`, as text or as JSON objects. Node `k` has the title and the detail with number `k`. `limit`
+/// is the greatest depth that is shown, where roots have 0. Without it the greatest depth is 1,000, and a last line or object says if that
+/// hides links. Returns an error only if out of memory.
 pub fn titled_text(
     alloc: Global,
     form: Format,
@@ -90,11 +91,11 @@ pub fn titled_text(
     roots: &[usize],
     limit: Option<usize>,
     titles: &[String],
-    ids: &[&str],
+    details: &[Detail<'_>],
 ) -> Result<Vec<u8>, AllocError>
-    ensures { IfOk result (λ text. spec.IsTreeText form links.now roots.now limit (titles_by (map string_bytes titles.now) (texts ids.now)) text.items) }
+    ensures { IfOk result (λ text. spec.IsTreeText form links.now roots.now limit (titles_by (map string_bytes titles.now) (map detail_text details.now)) text.items) }
 {
-    let titles = titles_with(alloc, titles, ids)?;
+    let titles = titles_with(alloc, titles, details)?;
     tree_text(alloc, form, links, roots, limit, &titles)
 }
 
@@ -119,6 +120,6 @@ pub(crate) fn unit_tree(
     ensures { IfOk result (λ text. spec.IsTreeText form links.now roots.now limit (unit_titles (texts shown.entry.names.now) (map package_text shown.entry.packages.now) (map unit_text shown.entry.units.now)) text.items) }
 {
     let titles = titles_of(alloc, shown.names, shown.packages, shown.units)?;
-    let ids = ids_of(alloc, shown.packages, shown.units)?;
-    titled_text(alloc, form, links, roots, limit, &titles, &ids)
+    let details = details_of(alloc, shown.names, shown.packages, shown.units)?;
+    titled_text(alloc, form, links, roots, limit, &titles, &details)
 }

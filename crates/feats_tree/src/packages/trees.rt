@@ -32,7 +32,7 @@ fn shown<'u, 'v, 'w>(
 }
 
 /// Returns the trees of what `plan` builds: the roots are what is started, and below each package is what it depends on. `names` are those
-/// of the target platforms. `limit` is as in `titled_text`. Returns an error only if out of memory.
+/// of the target platforms. `limit` is the greatest depth that is shown, as in `titled_text`. Returns an error only if out of memory.
 pub fn package_tree(
     alloc: Global,
     form: Format,
@@ -82,8 +82,8 @@ fn units_of(alloc: Global, units: &[Unit<'_>], package: usize) -> Result<Vec<usi
 }
 
 /// Returns the trees of the units of package `package`, where below each package is what depends on it. `names` are those of the target
-/// platforms. `limit` is as in `titled_text`. The text is empty if the package isn't built. Returns an error only if out
-/// of memory.
+/// platforms. `limit` is the greatest depth that is shown, as in `titled_text`. The text is empty if the package isn't built. Returns an
+/// error only if out of memory.
 pub fn inverted_package_tree(
     alloc: Global,
     form: Format,

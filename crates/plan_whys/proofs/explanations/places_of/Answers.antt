@@ -1,4 +1,4 @@
-use Rattle.std.proofs.Common.{◌≡◌, ◌∙◌, ℕ, ap, subst}
+use Rattle.std.proofs.Common.{◌∙◌, ℕ, ap, subst}
 use Rattle.feature_core.specs.Ways.{Reading}
 use Rattle.walk_checks.specs.Places.{ArePlaces}
 use Rattle.plan_whys.proofs.explanations.places_of.Goals as goal

@@ -10,4 +10,4 @@ returns c =
     let feature = subst (λ (name : Option Text). Appends c.args.writer.now c.write_optional.new.writer (optional_member (codes "feature") name)) c.feature_name.ensures c.in_ok-write_optional.ensures in
     let dependency = subst (λ (name : Option Text). Appends c.write_optional.new.writer c.write_optional-2.new.writer (optional_member (codes "dependency") name)) c.dependency_name.ensures c.in_ok-write_optional-2.ensures in
     on_ok c.write_texts.result c.write_texts.ensures (λ last.
-    appended _ _ _ _ _ feature (appended _ _ _ _ _ dependency (appended _ _ _ _ _ c.in_ok-write_flag.ensures (appended _ _ _ _ _ c.in_ok-write_flag-2.ensures last))))
+    appended _ _ _ _ _ feature (appended _ _ _ _ _ dependency (appended _ _ _ _ _ c.in_ok-write_sides.ensures last)))
