@@ -24,7 +24,7 @@ has_value() {
     --command | --bin | --example | --test | --bench) ;;
     --manifest-path | --config | -Z | -C | --color) ;;
     --profile | -j | --jobs | --message-format) ;;
-    -o | --output) ;;
+    -o | --output | --write | --verify) ;;
     *) return 1 ;;
   esac
 }
@@ -45,6 +45,10 @@ take() {
     -C) [ -d "$2" ] && cd -- "${2/#-/./-}" 2>/dev/null || fail "cannot change to the folder \`$2\`" ;;
     --profile | -j | --jobs | --message-format) ;;
     -o | --output) has_output=yes output=$2 ;;
+    --write | --verify)
+      [[ -z $joins || $joins = "$1" ]] || fail "write either \`--write\` or \`--verify\`"
+      joins=$1 join_word=$2
+      ;;
     --format) format=$2 for_feats+=("${@:3}") ;;
     --resolver | --manifest) has_resolver[builds]=yes for_feats+=("${@:3}") ;;
     *) for_feats+=("${@:3}") ;;
