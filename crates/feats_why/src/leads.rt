@@ -124,7 +124,7 @@ impl<'l, 'v> Model for Leads<'l, 'v> {
 }
 
 impl<'l, 'v> Leads<'l, 'v> {
-    /// Returns the packages of `workspace` with the declarations of each, for `write_steps`. An allocation's failure is the only error.
+    /// Returns the packages of `workspace` with the declarations of each. An allocation's failure is the only error.
     pub fn new(alloc: Global, workspace: &'l Workspace<'v>) -> Result<Leads<'l, 'v>, AllocError>
         ensures { IfOk result (λ leads. leads ≡ (workspace_text workspace.now).packages) }
     {

@@ -1,7 +1,6 @@
 //! An explanation as JSON objects.
 ghost use Rattle.std.specs.Prelude.{◌≡◌, ◌++◌, ◌∷◌, [], IfOk, OnOk, map, option_map};
 ghost use Rattle.cargo_workspaces.specs.Views.{package_text, texts};
-ghost use Rattle.cargo_workspaces.specs.WorkspaceView.{workspace_text};
 ghost use Rattle.feature_labels.specs.Names.{label_of};
 ghost use Rattle.json.specs.Print.{print};
 ghost use Rattle.json.specs.Token.{key, string};
@@ -14,7 +13,7 @@ use crate::leads::Leads;
 use crate::platforms::platforms_of;
 use crate::relations::{Relation, is_command, is_shown, relation_of};
 use crate::settings::WhySettings;
-use cargo_workspaces::{Package, Workspace};
+use cargo_workspaces::Package;
 use feature_labels::FeatureLabel;
 use json::Writer;
 use plan_rows::{Platform, Side};
@@ -336,16 +335,15 @@ fn object_lines<P: Platform>(
     Ok(text)
 }
 
-/// Returns a line with a JSON object for each of `steps`, which are those of an explanation in `workspace`. Steps at command features
-/// aren't shown.
+/// Returns a line with a JSON object for each of `steps`, which are those of an explanation in the workspace of `leads`. Steps at
+/// command features aren't shown.
 pub fn why_objects<P: Platform>(
     alloc: Global,
-    workspace: &Workspace<'_>,
+    leads: &Leads<'_, '_>,
     settings: &WhySettings<'_, P>,
     steps: &[WhyStep<'_>],
 ) -> Result<Vec<u8>, AllocError>
-    ensures { IfOk result (λ text. text.items ≡ spec.why_objects (workspace_text workspace.now).packages (settings_text P.holds settings.now) (map why_text steps.now)) }
+    ensures { IfOk result (λ text. text.items ≡ spec.why_objects leads.now (settings_text P.holds settings.now) (map why_text steps.now)) }
 {
-    let leads = Leads::new(alloc, workspace)?;
-    object_lines(alloc, &leads, settings, steps)
+    object_lines(alloc, leads, settings, steps)
 }

@@ -1,6 +1,5 @@
 //! An explanation with every direct reason, as JSON objects.
 ghost use Rattle.std.specs.Prelude.{◌≡◌, ◌++◌, ◌∷◌, [], IfOk, OnOk, flat_map, map};
-ghost use Rattle.cargo_workspaces.specs.WorkspaceView.{workspace_text};
 ghost use Rattle.json.specs.Print.{print};
 ghost use Rattle.feats_why.specs.Objects.{Appends};
 ghost use Rattle.feats_why.specs.ReasonedObjects as spec;
@@ -11,7 +10,6 @@ use crate::leads::Leads;
 use crate::objects::{reason_platforms, write_reason, write_spot};
 use crate::relations::is_shown;
 use crate::settings::WhySettings;
-use cargo_workspaces::Workspace;
 use json::Writer;
 use plan_rows::Platform;
 use plan_whys::{ReasonedStep, Spot, WhyReason, WhyStep};
@@ -167,12 +165,11 @@ fn reasoned_lines<P: Platform>(
 /// the step's spot.
 pub fn reasoned_objects<P: Platform>(
     alloc: Global,
-    workspace: &Workspace<'_>,
+    leads: &Leads<'_, '_>,
     settings: &WhySettings<'_, P>,
     steps: &[ReasonedStep<'_>],
 ) -> Result<Vec<u8>, AllocError>
-    ensures { IfOk result (λ text. text.items ≡ spec.reasoned_objects (workspace_text workspace.now).packages (settings_text P.holds settings.now) (map reasoned_text steps.now)) }
+    ensures { IfOk result (λ text. text.items ≡ spec.reasoned_objects leads.now (settings_text P.holds settings.now) (map reasoned_text steps.now)) }
 {
-    let leads = Leads::new(alloc, workspace)?;
-    reasoned_lines(alloc, &leads, settings, steps)
+    reasoned_lines(alloc, leads, settings, steps)
 }

@@ -1,6 +1,5 @@
 //! An explanation with every direct reason, as text in columns.
 ghost use Rattle.std.specs.Prelude.{◌≡◌, ◌++◌, IfOk, OnOk, flat_map, fold, map, string_bytes};
-ghost use Rattle.cargo_workspaces.specs.WorkspaceView.{workspace_text};
 ghost use Rattle.feats_why.specs.ReasonedLines as spec;
 ghost use Rattle.feats_why.specs.Reasons.{reason_words as words_of};
 ghost use Rattle.feats_why.specs.Settings.{settings_text};
@@ -15,7 +14,6 @@ use crate::relations::is_shown;
 use crate::rows::{Row, row_of};
 use crate::settings::WhySettings;
 use crate::table::table_of;
-use cargo_workspaces::Workspace;
 use feats_lines::names_of;
 use plan_rows::Platform;
 use plan_whys::{ReasonedStep, Spot, WhyReason};
@@ -141,15 +139,15 @@ fn all_rows<P: Platform>(
 /// has no label. A reason whose words a line of the step has already isn't shown.
 pub fn reasoned_lines<P: Platform>(
     alloc: Global,
-    workspace: &Workspace<'_>,
+    leads: &Leads<'_, '_>,
     settings: &WhySettings<'_, P>,
     steps: &[ReasonedStep<'_>],
 ) -> Result<String, AllocError>
-    ensures { IfOk result (λ text. string_bytes text ≡ spec.reasoned_lines (workspace_text workspace.now).packages (settings_text P.holds settings.now) (map reasoned_text steps.now)) }
+    ensures { IfOk result (λ text. string_bytes text ≡ spec.reasoned_lines leads.now (settings_text P.holds settings.now) (map reasoned_text steps.now)) }
 {
-    let versions = names_of(alloc, workspace.packages())?;
-    let labels = labels_of(alloc, workspace.packages(), &versions, settings.split)?;
-    let leads = Leads::new(alloc, workspace)?;
-    let rows = all_rows(alloc, &labels, &leads, settings, steps)?;
+    let packages = leads.packages();
+    let versions = names_of(alloc, packages)?;
+    let labels = labels_of(alloc, packages, &versions, settings.split)?;
+    let rows = all_rows(alloc, &labels, leads, settings, steps)?;
     table_of(alloc, &rows)
 }
