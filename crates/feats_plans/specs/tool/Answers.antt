@@ -33,11 +33,15 @@ abbrev pub AreRuleWarnings : QuestionText → List RuleText → PlannedText → 
 AreRuleWarnings (check file every_choice strict) rules p lines = ArePolicyWarnings (policy_words file every_choice strict rules) p.workspace p.words lines
 AreRuleWarnings _ rules p lines = lines ≡ []
 
--- The warnings: those about the document, about the words of `--exclude`, and about the rules.
+-- The warnings about the document, and about the words of `--exclude`.
+abbrev pub document_lines : PlannedText → List Text
+document_lines p = lost_lines p.words.host p.words.targets p.workspace ++ exclusion_lines p.workspace p.inputs.arguments.exclude
+
+-- The warnings: those of `document_lines`, and those about the rules.
 pub record AreWarnings (rules : List RuleText) (p : PlannedText) (lines : List Text) : Type 0 where
   pub of_rules : List Text
   pub are_of_rules : AreRuleWarnings p.inputs.arguments.question rules p of_rules
-  pub are_lines : lines ≡ lost_lines p.words.host p.words.targets p.workspace ++ exclusion_lines p.workspace p.inputs.arguments.exclude ++ of_rules
+  pub are_lines : lines ≡ document_lines p ++ of_rules
 
 -- The message about a rule whose word names nothing, if each must name something.
 abbrev pub IsStrictly : QuestionText → List RuleText → PlannedText → Text → Type 0

@@ -5,19 +5,16 @@ use Rattle.cargo_workspaces.specs.Workspaces.{Text, WorkspaceText}
 use Rattle.plan_words.specs.PackageWords.{has_fitting_name, packages_of_word}
 use Rattle.shown_texts.specs.Shown.{escaped}
 
-abbrev pub is_among : List ℕ → ℕ → Bool
-is_among numbers n = list_any (nat_eq n) numbers
+-- Whether a word, which names the packages `named`, excludes member `m`: it names it, or the member's name fits it as a pattern.
+abbrev pub is_excluded : WorkspaceText → List ℕ → Text → ℕ → Bool
+is_excluded w named word m = list_any (nat_eq m) named || has_fitting_name w word m
 
--- Whether a word excludes member `m`: it names it, or the member's name fits it as a pattern.
-abbrev pub excludes : WorkspaceText → Text → ℕ → Bool
-excludes w word m = is_among (packages_of_word w.packages word) m || has_fitting_name w word m
-
-abbrev pub excludes_any : WorkspaceText → Text → Bool
-excludes_any w word = list_any (excludes w word) w.members
+abbrev pub excludes_none : WorkspaceText → Text → Bool
+excludes_none w word = not (list_any (is_excluded w (packages_of_word w.packages word) word) w.members)
 
 abbrev pub line_about : Text → Text
 line_about word = codes "`--exclude " ++ (escaped word ++ codes "` excludes no member of the workspace")
 
 -- THE LINES about the words that exclude no member, in the order of the words.
 abbrev pub exclusion_lines : WorkspaceText → List Text → List Text
-exclusion_lines w words = map line_about (filter (λ word. not (excludes_any w word)) words)
+exclusion_lines w words = map line_about (filter (excludes_none w) words)

@@ -1,5 +1,6 @@
 //! A line for each word of `--exclude` that excludes no member.
 ghost use Rattle.std.specs.Prelude.{◌≡◌, IfOk, string_bytes};
+ghost use Rattle.std.specs.List.{list_any};
 ghost use Rattle.cargo_workspaces.specs.Views.{texts};
 ghost use Rattle.cargo_workspaces.specs.WorkspaceView.{workspace_text};
 ghost use Rattle.feats_plans.specs.tool.Exclusions as spec;
@@ -21,24 +22,31 @@ fn has_fitting_name(workspace: &Workspace<'_>, pattern: &str, number: usize) -> 
     }
 }
 
-/// Returns whether `number` is one of `numbers`.
-fn is_among(numbers: &[usize], number: usize) -> bool
-    ensures { result ≡ spec.is_among numbers.now number }
+/// Returns whether `word`, which names the packages `named`, excludes `member`: it names it, or the member's name fits it as a pattern.
+fn is_excluded(workspace: &Workspace<'_>, named: &[usize], word: &str, member: usize) -> bool
+    ensures { result ≡ spec.is_excluded (workspace_text workspace.now) named.now word.now member }
 {
-    numbers.contains(&number)
+    named.contains(&member) || has_fitting_name(workspace, word, member)
 }
 
-/// Returns whether `word` excludes a member of `workspace`: it names it, or the member's name fits it as a pattern.
-fn excludes_any(alloc: Global, workspace: &Workspace<'_>, word: &str) -> Result<bool, AllocError>
-    ensures { IfOk result (λ any. any ≡ spec.excludes_any (workspace_text workspace.now) word.now) }
+/// Returns whether `word`, which names the packages `named`, excludes a member of `workspace`.
+fn any_excluded(workspace: &Workspace<'_>, named: &[usize], word: &str) -> bool
+    ensures { result ≡ list_any (spec.is_excluded (workspace_text workspace.now) named.now word.now) (workspace_text workspace.now).members }
 {
-    let named = packages_of_word(alloc, workspace, word)?;
     for member in workspace.members() {
-        if is_among(&named, *member) || has_fitting_name(workspace, word, *member) {
-            return Ok(true);
+        if is_excluded(workspace, named, word, *member) {
+            return true;
         }
     }
-    Ok(false)
+    false
+}
+
+/// Returns whether `word` excludes no member of `workspace`.
+fn excludes_none(alloc: Global, workspace: &Workspace<'_>, word: &str) -> Result<bool, AllocError>
+    ensures { IfOk result (λ none. none ≡ spec.excludes_none (workspace_text workspace.now) word.now) }
+{
+    let named = packages_of_word(alloc, workspace, word)?;
+    Ok(!any_excluded(workspace, &named, word))
 }
 
 /// Returns the line about `word`.
@@ -61,7 +69,7 @@ pub(crate) fn exclusion_lines(
 {
     let mut lines = Vec::new(alloc);
     for word in words {
-        if !excludes_any(alloc, workspace, word)? {
+        if excludes_none(alloc, workspace, word)? {
             lines.push(line_about(alloc, word)?)?;
         }
     }

@@ -6,7 +6,7 @@ ghost use Rattle.feats_files.specs.Messages.{Says};
 ghost use Rattle.feats_plans.specs.PlannedView.{planned_text};
 ghost use Rattle.feats_answers.specs.Answers.{IsAnswerTo, IsNoAnswerTo};
 ghost use Rattle.feats_plans.specs.tool.AnsweredView.{answered_text};
-ghost use Rattle.feats_plans.specs.tool.Answers.{AreRuleWarnings, AreWarnings, IsPlanAnswer, IsPlanRefusal, IsStrictly, asked_by};
+ghost use Rattle.feats_plans.specs.tool.Answers.{AreRuleWarnings, AreWarnings, IsPlanAnswer, IsPlanRefusal, IsStrictly, asked_by, document_lines};
 ghost use Rattle.feats_check.specs.checking.WarningViews.{string_texts};
 ghost use Rattle.plan_rows.specs.platforms.DeclaredSpecs.{declared_specs};
 ghost use Rattle.plan_rows.specs.platforms.Views.{declared_text};
@@ -21,7 +21,7 @@ use feats_check::checking::{PolicyWords, policy_warnings};
 use feats_files::Fault;
 use feats_policies::Rule;
 use feats_words::Question;
-use std::alloc::Global;
+use std::alloc::{AllocError, Global};
 
 /// Returns the warnings about `rules`, those of the policy; none, if the arguments name no policy.
 fn rule_warnings(
@@ -50,7 +50,21 @@ fn rule_warnings(
     }
 }
 
-/// Returns the warnings about the document of the plan, about the words of `--exclude`, and about `rules`, which are those of the policy.
+/// Returns the warnings about the document of the plan, and about the words of `--exclude`.
+fn document_warnings(
+    alloc: Global,
+    planned: &Planned<'_, '_, '_, '_, '_>,
+) -> Result<Vec<String>, AllocError>
+    ensures { IfOk result (λ lines. string_texts lines.items ≡ document_lines (planned_text planned.now)) }
+{
+    let words = planned.words;
+    let mut of_words = exclusion_lines(alloc, planned.workspace, &planned.arguments.exclude)?;
+    let mut warnings = lost_lines(alloc, planned.workspace, words.host, words.targets)?;
+    warnings.append(&mut of_words)?;
+    Ok(warnings)
+}
+
+/// Returns the warnings of `document_warnings`, and then those about `rules`, which are those of the policy.
 fn warnings_of(
     alloc: Global,
     rules: &[Rule<'_>],
@@ -59,11 +73,8 @@ fn warnings_of(
     ensures warnings { IfOk result (λ lines. AreWarnings (map rule_text rules.now) (planned_text planned.now) (string_texts lines.items)) }
     ensures fault { IfErr result (λ fault. Says fault (IsStrictly (planned_text planned.now).inputs.arguments.question (map rule_text rules.now) (planned_text planned.now))) }
 {
-    let words = planned.words;
     let mut of_rules = rule_warnings(alloc, rules, planned)?;
-    let mut of_words = exclusion_lines(alloc, planned.workspace, &planned.arguments.exclude)?;
-    let mut warnings = lost_lines(alloc, planned.workspace, words.host, words.targets)?;
-    warnings.append(&mut of_words)?;
+    let mut warnings = document_warnings(alloc, planned)?;
     warnings.append(&mut of_rules)?;
     Ok(warnings)
 }
