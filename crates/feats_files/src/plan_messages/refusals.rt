@@ -1,6 +1,6 @@
 //! The refusals of selections that have no plan.
-ghost use Rattle.std.specs.Prelude.{◌≡◌, ◌++◌, IfOk, OnOk, string_bytes};
-ghost use Rattle.cargo_workspaces.specs.Views.{texts};
+ghost use Rattle.std.specs.Prelude.{◌≡◌, ◌++◌, [], IfOk, OnOk, Some, string_bytes};
+ghost use Rattle.cargo_workspaces.specs.Views.{target_text, texts};
 ghost use Rattle.cargo_workspaces.specs.WorkspaceView.{workspace_text};
 ghost use Rattle.cargo_plans.specs.Refusals.{is_memory};
 ghost use Rattle.cargo_plans.specs.plan_starts.UnfitWords.{unfit_text};
@@ -10,7 +10,7 @@ ghost use Rattle.feats_files.specs.plan_messages.Messages as spec;
 use crate::platforms::id_at;
 use crate::{Fault, push_escaped, push_package, refused};
 use cargo_plans::{PlanFault, Side, StepFault, UnfitWord, WordFault};
-use cargo_workspaces::Workspace;
+use cargo_workspaces::{Target, Workspace};
 use std::alloc::{AllocError, Global};
 
 /// Returns whether `fault` is that an allocation failed.
@@ -173,21 +173,28 @@ fn not_on_refused<'p>(
     )
 }
 
+/// Returns the refusal of `name`, which fits no target of the kind `kind` in the selected packages.
+fn unfit_refused<'p>(alloc: Global, kind: &'p str, name: &'p str) -> Fault
+    ensures { IsRefused (spec.no_target_message (kind.now, Some name.now)) result }
+{
+    refused(
+        alloc,
+        &[
+            "no selected package has a target of the kind `",
+            kind,
+            "` that fits `",
+            name,
+            "`: write its name, or a pattern with `*`",
+        ],
+    )
+}
+
 /// Returns the refusal of a word for targets that chooses none of the selected packages.
 fn no_target_refused(alloc: Global, word: UnfitWord<'_>) -> Fault
     ensures { IsRefused (spec.no_target_message (unfit_text word.entry)) result }
 {
     match word.name {
-        Some(name) => refused(
-            alloc,
-            &[
-                "no selected package has a target of the kind `",
-                word.kind,
-                "` that fits `",
-                name,
-                "`: write its name, or a pattern with `*`",
-            ],
-        ),
+        Some(name) => unfit_refused(alloc, word.kind, name),
         None => refused(
             alloc,
             &["no selected package has a library: leave --lib out"],
@@ -208,16 +215,30 @@ fn target_name<'w>(workspace: &'w Workspace<'_>, package: usize, target: usize) 
     }
 }
 
+/// Returns no features.
+fn no_features<'w, 'v>() -> &'w [&'v str]
+    ensures { texts result.now ≡ [] }
+{
+    &[]
+}
+
+/// Returns the features that `target` requires.
+fn features_of<'w, 'v>(target: &'w Target<'v>) -> &'w [&'v str]
+    ensures { texts result.now ≡ (target_text target.now).required_features }
+{
+    &target.required_features
+}
+
 /// Returns the features that target `target` of package `package` requires; none if there is no such target.
 fn needs_of<'w, 'v>(workspace: &'w Workspace<'v>, package: usize, target: usize) -> &'w [&'v str]
     ensures { texts result.now ≡ spec.needs_of (workspace_text workspace.now).packages «package» target }
 {
     match workspace.packages().get(package) {
         Some(found) => match found.targets.get(target) {
-            Some(chosen) => &chosen.required_features,
-            None => &[],
+            Some(chosen) => features_of(chosen),
+            None => no_features(),
         },
-        None => &[],
+        None => no_features(),
     }
 }
 
