@@ -1,6 +1,6 @@
 //! The refusals of selections that have no plan.
-ghost use Rattle.std.specs.Prelude.{◌≡◌, ◌++◌, [], IfOk, OnOk, Some, string_bytes};
-ghost use Rattle.cargo_workspaces.specs.Views.{target_text, texts};
+ghost use Rattle.std.specs.Prelude.{◌≡◌, ◌++◌, IfOk, OnOk, Some, flat_map, string_bytes};
+ghost use Rattle.cargo_workspaces.specs.Views.{texts};
 ghost use Rattle.cargo_workspaces.specs.WorkspaceView.{workspace_text};
 ghost use Rattle.cargo_plans.specs.Refusals.{is_memory};
 ghost use Rattle.cargo_plans.specs.plan_starts.UnfitWords.{unfit_text};
@@ -10,7 +10,7 @@ ghost use Rattle.feats_files.specs.plan_messages.Messages as spec;
 use crate::platforms::id_at;
 use crate::{Fault, push_escaped, push_package, refused};
 use cargo_plans::{PlanFault, Side, StepFault, UnfitWord, WordFault};
-use cargo_workspaces::{Target, Workspace};
+use cargo_workspaces::Workspace;
 use std::alloc::{AllocError, Global};
 
 /// Returns whether `fault` is that an allocation failed.
@@ -215,33 +215,6 @@ fn target_name<'w>(workspace: &'w Workspace<'_>, package: usize, target: usize) 
     }
 }
 
-/// Returns no features.
-fn no_features<'w, 'v>() -> &'w [&'v str]
-    ensures { texts result.now ≡ [] }
-{
-    &[]
-}
-
-/// Returns the features that `target` requires.
-fn features_of<'w, 'v>(target: &'w Target<'v>) -> &'w [&'v str]
-    ensures { texts result.now ≡ (target_text target.now).required_features }
-{
-    &target.required_features
-}
-
-/// Returns the features that target `target` of package `package` requires; none if there is no such target.
-fn needs_of<'w, 'v>(workspace: &'w Workspace<'v>, package: usize, target: usize) -> &'w [&'v str]
-    ensures { texts result.now ≡ spec.needs_of (workspace_text workspace.now).packages «package» target }
-{
-    match workspace.packages().get(package) {
-        Some(found) => match found.targets.get(target) {
-            Some(chosen) => features_of(chosen),
-            None => no_features(),
-        },
-        None => no_features(),
-    }
-}
-
 /// Appends the name of a feature.
 fn push_feature(text: &mut String, feature: &str) -> Result<(), AllocError>
     ensures { OnOk result (string_bytes text.new ≡ string_bytes text.old ++ spec.needed_feature feature.now) }
@@ -250,6 +223,34 @@ fn push_feature(text: &mut String, feature: &str) -> Result<(), AllocError>
     text.push_str(feature)?;
     text.push_str("`")?;
     Ok(())
+}
+
+/// Appends the names of `features`.
+fn push_features(text: &mut String, features: &[&str]) -> Result<(), AllocError>
+    ensures { OnOk result (string_bytes text.new ≡ string_bytes text.old ++ flat_map spec.needed_feature (texts features.now)) }
+{
+    for feature in features {
+        push_feature(text, feature)?;
+    }
+    Ok(())
+}
+
+/// Appends the names of the features that target `target` of package `package` requires; nothing if there is no such target.
+fn push_needs(
+    text: &mut String,
+    workspace: &Workspace<'_>,
+    package: usize,
+    target: usize,
+) -> Result<(), AllocError>
+    ensures { OnOk result (string_bytes text.new ≡ string_bytes text.old ++ flat_map spec.needed_feature (spec.needs_of (workspace_text workspace.now).packages «package» target)) }
+{
+    let Some(found) = workspace.packages().get(package) else {
+        return Ok(());
+    };
+    let Some(chosen) = found.targets.get(target) else {
+        return Ok(());
+    };
+    push_features(text, &chosen.required_features)
 }
 
 /// Returns the message about a target that is chosen by its name, and requires a feature that isn't on.
@@ -261,15 +262,12 @@ fn unmet_message(
 ) -> Result<String, AllocError>
     ensures { IfOk result (λ text. string_bytes text ≡ spec.unmet_message (workspace_text workspace.now).packages «package» target) }
 {
-    let needs = needs_of(workspace, package, target);
     let mut text = String::from_str(alloc, "the target `")?;
     text.push_str(target_name(workspace, package, target))?;
     text.push_str("` of package ")?;
     text.push_str(id_at(workspace, package))?;
     text.push_str(" requires features, and not all are on: add --features for")?;
-    for feature in needs {
-        push_feature(&mut text, feature)?;
-    }
+    push_needs(&mut text, workspace, package, target)?;
     Ok(text)
 }
 
