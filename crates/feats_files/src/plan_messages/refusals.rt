@@ -253,6 +253,23 @@ fn push_needs(
     push_features(text, &chosen.required_features)
 }
 
+/// Returns the begin of the message about a target that is chosen by its name.
+fn unmet_begin(
+    alloc: Global,
+    workspace: &Workspace<'_>,
+    package: usize,
+    target: usize,
+) -> Result<String, AllocError>
+    ensures { IfOk result (λ text. string_bytes text ≡ spec.unmet_begin (workspace_text workspace.now).packages «package» target) }
+{
+    let mut text = String::from_str(alloc, "the target `")?;
+    text.push_str(target_name(workspace, package, target))?;
+    text.push_str("` of package ")?;
+    text.push_str(id_at(workspace, package))?;
+    text.push_str(" requires features, and not all are on: add --features for")?;
+    Ok(text)
+}
+
 /// Returns the message about a target that is chosen by its name, and requires a feature that isn't on.
 fn unmet_message(
     alloc: Global,
@@ -262,11 +279,7 @@ fn unmet_message(
 ) -> Result<String, AllocError>
     ensures { IfOk result (λ text. string_bytes text ≡ spec.unmet_message (workspace_text workspace.now).packages «package» target) }
 {
-    let mut text = String::from_str(alloc, "the target `")?;
-    text.push_str(target_name(workspace, package, target))?;
-    text.push_str("` of package ")?;
-    text.push_str(id_at(workspace, package))?;
-    text.push_str(" requires features, and not all are on: add --features for")?;
+    let mut text = unmet_begin(alloc, workspace, package, target)?;
     push_needs(&mut text, workspace, package, target)?;
     Ok(text)
 }
