@@ -7,6 +7,7 @@ ghost use Rattle.cargo_plans.specs.plan_starts.UnfitWords.{unfit_text};
 ghost use Rattle.feats_files.specs.Messages.{IsRefused};
 ghost use Rattle.feats_files.specs.plan_messages.Messages as spec;
 
+use crate::message::text_of;
 use crate::platforms::id_at;
 use crate::{Fault, push_escaped, push_package, refused};
 use cargo_plans::{PlanFault, Side, StepFault, UnfitWord, WordFault};
@@ -254,20 +255,24 @@ fn push_needs(
 }
 
 /// Returns the begin of the message about a target that is chosen by its name.
-fn unmet_begin(
+fn unmet_begin<'w>(
     alloc: Global,
-    workspace: &Workspace<'_>,
+    workspace: &'w Workspace<'_>,
     package: usize,
     target: usize,
 ) -> Result<String, AllocError>
     ensures { IfOk result (λ text. string_bytes text ≡ spec.unmet_begin (workspace_text workspace.now).packages «package» target) }
 {
-    let mut text = String::from_str(alloc, "the target `")?;
-    text.push_str(target_name(workspace, package, target))?;
-    text.push_str("` of package ")?;
-    text.push_str(id_at(workspace, package))?;
-    text.push_str(" requires features, and not all are on: add --features for")?;
-    Ok(text)
+    text_of(
+        alloc,
+        &[
+            "the target `",
+            target_name(workspace, package, target),
+            "` of package ",
+            id_at(workspace, package),
+            " requires features, and not all are on: add --features for",
+        ],
+    )
 }
 
 /// Returns the message about a target that is chosen by its name, and requires a feature that isn't on.
