@@ -1,5 +1,5 @@
 -- Tokens that are appended, one after the other.
-use Rattle.std.proofs.Common.{◌∙◌, ap, List, ◌++◌, append_assoc, Result, Ok, Err}
+use Rattle.std.proofs.Common.{◌≡◌, ◌∙◌, ap, sym, refl, List, [], ◌++◌, append_assoc, append-nil, Result, Ok, Err}
 use Rattle.std.specs.Prelude.{OnOk}
 use Rattle.json.specs.Token.{Token}
 use Rattle.json.specs.Written.{Written}
@@ -12,3 +12,7 @@ appended a b c xs ys h k = record { before = k.before ∙ h.before; tokens = k.t
 pub on_ok : {E P Q : Type 0} (r : Result (Unit {0}) E) → OnOk r P → (P → Q) → OnOk r Q
 on_ok (Ok x) p f = f p
 on_ok (Err e) p f = tt
+
+-- if there are no tokens, nothing is appended
+pub nothing : (w : Written) (ts : List Token) → [] ≡ ts → Appends w w ts
+nothing w ts none = record { before = refl; tokens = sym (append-nil w.tokens) ∙ ap (λ z. w.tokens ++ z) none }
