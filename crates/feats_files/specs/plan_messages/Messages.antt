@@ -1,7 +1,7 @@
 -- Messages about selections that have no plan.
 use Rattle.std.specs.Prelude.{ℕ, List, [], ◌∷◌, ◌++◌, flat_map, codes, Option, Some, None, slice_get}
 use Rattle.std.specs.Option.{option_map_or}
-use Rattle.cargo_workspaces.specs.Workspaces.{Text, PackageText, TargetText}
+use Rattle.cargo_workspaces.specs.Workspaces.{Text, PackageText}
 use Rattle.plan_rows.specs.declared.side.Side.{Side}
 use Rattle.plan_rows.specs.declared.side.Side.TheVariants as side
 use Rattle.plan_words.specs.declared.fault.WordFault.{WordFault}
@@ -46,27 +46,19 @@ side_word side.Host = codes "host"
 abbrev pub not_on_message : List PackageText → ℕ → Text → Text
 not_on_message packages p side = joined (codes "package " ∷ id_at packages p ∷ codes " isn't built for the " ∷ side ∷ codes ": select a member that depends on it too" ∷ [])
 
--- The message that no target of this kind has a name that fits a word.
-abbrev pub no_name_message : Text → Text → Text
-no_name_message kind name =
-    joined (codes "no selected package has a target of the kind `" ∷ kind ∷ codes "` that fits `" ∷ name ∷ codes "`: write its name, or a pattern with `*`" ∷ [])
-
 -- The message that a word for targets, of this kind, chooses none of the selected packages.
 abbrev pub no_target_message : Text × Option Text → Text
 no_target_message (kind, None) = joined (codes "no selected package has a library: leave --lib out" ∷ [])
-no_target_message (kind, Some name) = no_name_message kind name
+no_target_message (kind, Some name) =
+    joined (codes "no selected package has a target of the kind `" ∷ kind ∷ codes "` that fits `" ∷ name ∷ codes "`: write its name, or a pattern with `*`" ∷ [])
 
 -- The name of target `t` of package `p`.
 abbrev pub target_name : List PackageText → ℕ → ℕ → Text
 target_name packages p t = option_map_or (λ x. option_map_or (λ t. t.name) (slice_get x.targets t) []) (slice_get packages p) []
 
--- The features that target `t` of the targets requires.
-abbrev pub needs_at : List TargetText → ℕ → List Text
-needs_at targets t = option_map_or (λ t. t.required_features) (slice_get targets t) []
-
--- The features that target `t` of package `p` requires.
+-- The features that it requires.
 abbrev pub needs_of : List PackageText → ℕ → ℕ → List Text
-needs_of packages p t = option_map_or (λ x. needs_at x.targets t) (slice_get packages p) []
+needs_of packages p t = option_map_or (λ x. option_map_or (λ t. t.required_features) (slice_get x.targets t) []) (slice_get packages p) []
 
 abbrev pub needed_feature : Text → Text
 needed_feature feature = joined (codes " `" ∷ feature ∷ codes "`" ∷ [])

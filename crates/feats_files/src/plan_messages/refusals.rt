@@ -1,6 +1,6 @@
 //! The refusals of selections that have no plan.
-ghost use Rattle.std.specs.Prelude.{◌≡◌, ◌++◌, IfOk, OnOk, map, string_bytes};
-ghost use Rattle.cargo_workspaces.specs.Views.{target_text, texts};
+ghost use Rattle.std.specs.Prelude.{◌≡◌, ◌++◌, IfOk, OnOk, string_bytes};
+ghost use Rattle.cargo_workspaces.specs.Views.{texts};
 ghost use Rattle.cargo_workspaces.specs.WorkspaceView.{workspace_text};
 ghost use Rattle.cargo_plans.specs.Refusals.{is_memory};
 ghost use Rattle.cargo_plans.specs.plan_starts.UnfitWords.{unfit_text};
@@ -10,7 +10,7 @@ ghost use Rattle.feats_files.specs.plan_messages.Messages as spec;
 use crate::platforms::id_at;
 use crate::{Fault, push_escaped, push_package, refused};
 use cargo_plans::{PlanFault, Side, StepFault, UnfitWord, WordFault};
-use cargo_workspaces::{Target, Workspace};
+use cargo_workspaces::Workspace;
 use std::alloc::{AllocError, Global};
 
 /// Returns whether `fault` is that an allocation failed.
@@ -173,28 +173,21 @@ fn not_on_refused<'p>(
     )
 }
 
-/// Returns the refusal of `name`, a word for a target of this kind that chooses none of the selected packages.
-fn no_name_refused<'c>(alloc: Global, kind: &'c str, name: &'c str) -> Fault
-    ensures { IsRefused (spec.no_name_message kind.now name.now) result }
-{
-    refused(
-        alloc,
-        &[
-            "no selected package has a target of the kind `",
-            kind,
-            "` that fits `",
-            name,
-            "`: write its name, or a pattern with `*`",
-        ],
-    )
-}
-
 /// Returns the refusal of a word for targets that chooses none of the selected packages.
-fn no_target_refused<'c>(alloc: Global, word: UnfitWord<'c>) -> Fault
+fn no_target_refused(alloc: Global, word: UnfitWord<'_>) -> Fault
     ensures { IsRefused (spec.no_target_message (unfit_text word.entry)) result }
 {
     match word.name {
-        Some(name) => no_name_refused(alloc, word.kind, name),
+        Some(name) => refused(
+            alloc,
+            &[
+                "no selected package has a target of the kind `",
+                word.kind,
+                "` that fits `",
+                name,
+                "`: write its name, or a pattern with `*`",
+            ],
+        ),
         None => refused(
             alloc,
             &["no selected package has a library: leave --lib out"],
@@ -215,22 +208,15 @@ fn target_name<'w>(workspace: &'w Workspace<'_>, package: usize, target: usize) 
     }
 }
 
-/// Returns the features that target `target` of `targets` requires; none if there is no such target.
-fn needs_at<'t, 'v>(targets: &'t [Target<'v>], target: usize) -> &'t [&'v str]
-    ensures { texts result.now ≡ spec.needs_at (map target_text targets.now) target }
-{
-    match targets.get(target) {
-        Some(chosen) => chosen.required_features.as_slice(),
-        None => &[],
-    }
-}
-
 /// Returns the features that target `target` of package `package` requires; none if there is no such target.
 fn needs_of<'w, 'v>(workspace: &'w Workspace<'v>, package: usize, target: usize) -> &'w [&'v str]
     ensures { texts result.now ≡ spec.needs_of (workspace_text workspace.now).packages «package» target }
 {
     match workspace.packages().get(package) {
-        Some(found) => needs_at(&found.targets, target),
+        Some(found) => match found.targets.get(target) {
+            Some(chosen) => &chosen.required_features,
+            None => &[],
+        },
         None => &[],
     }
 }
