@@ -16,6 +16,7 @@ import sys
 
 sys.dont_write_bytecode = True
 
+import name_model
 import plan_model
 from plan_model import HOST, TARGET, Refused
 
@@ -129,15 +130,16 @@ def main():
     is_json = argv[-2:] == ['--format', 'json']
     words = plan_model.words_of(argv[:-2] if is_json else argv)
     with open(0 if words.metadata == '-' else words.metadata, encoding='utf-8') as it:
-        document = plan_model.document_of(json.load(it))
+        value = json.load(it)
+    document = plan_model.document_of(value)
     selection = plan_model.selection_of(words)
     try:
         if command == 'specs':
             text = (specs_objects if is_json else specs_text)(document, selection)
         else:
             plan = plan_model.Plan(document, selection)
-            text = (list_objects if is_json else list_text)(plan, plan_model.package_named(document, spec))
-    except Refused as refused:
+            text = (list_objects if is_json else list_text)(plan, name_model.package_named(value, spec))
+    except (Refused, name_model.Unknown, name_model.Several) as refused:
         sys.exit(str(refused))
     sys.stdout.write(text)
     return 0

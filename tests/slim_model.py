@@ -284,7 +284,7 @@ WORKED_INHERITED = [
 
 WORKED_TEXT = [
     (text_of, 'packages  features  edit of a declaration\n       1         2  app: log without default features\n'),
-    (objects_text_of, '{"package":"app","dependency":"log","kind":"normal","platform":null,"without":"defaults","feature":null,"packages":1,"features":2}\n'),
+    (objects_text_of, '{"package":"app","dependency":"log","kind":"normal","platform":null,"without":"defaults","feature":null,"lost-packages":1,"lost-features":2}\n'),
 ]
 
 

@@ -194,7 +194,7 @@ def answer_of(own, value, plan):
         return dot_text(graph)
     wanted = None
     if own.invert is not None:
-        wanted = spots_of_word(plan, value, own.invert) if is_features else units_of_package(graph, plan_model.package_named(plan.document, own.invert))
+        wanted = spots_of_word(plan, value, own.invert) if is_features else units_of_package(graph, name_model.package_named(value, own.invert))
     return (tree_objects if own.format == 'json' else tree_text)(graph, wanted, own.depth)
 
 

@@ -22,7 +22,7 @@ use crate::parts::spot_on;
 use cargo_plans::built_parts::{BuiltParts, PartState};
 use cargo_plans::{Plan, PlanWords, Side};
 use cargo_workspaces::Workspace;
-use feats_why::{Leads, reasoned_lines, reasoned_objects, settings_of, why_lines, why_objects};
+use feats_why::{reasoned_lines, reasoned_objects, settings_of, why_lines, why_objects};
 use feats_words::Format;
 use plan_names::Named;
 use plan_rows::platforms::HeldSpecs;
@@ -33,16 +33,16 @@ use std::alloc::{AllocError, Global};
 fn steps_text(
     alloc: Global,
     format: Format,
-    leads: &Leads<'_, '_>,
+    workspace: &Workspace<'_>,
     words: &PlanWords<'_, '_, HeldSpecs<'_>>,
     steps: &[WhyStep<'_>],
 ) -> Result<Vec<u8>, AllocError>
-    ensures { IfOk result (λ text. text.items ≡ spec.steps_text format leads.now (words_text holds_on words.now) (map why_text steps.now)) }
+    ensures { IfOk result (λ text. text.items ≡ spec.steps_text format (workspace_text workspace.now).packages (words_text holds_on words.now) (map why_text steps.now)) }
 {
     let settings = settings_of(words);
     match format {
-        Format::Text => Ok(why_lines(alloc, leads, &settings, steps)?.into_bytes()),
-        Format::Json => why_objects(alloc, leads, &settings, steps),
+        Format::Text => Ok(why_lines(alloc, workspace, &settings, steps)?.into_bytes()),
+        Format::Json => why_objects(alloc, workspace, &settings, steps),
     }
 }
 
@@ -50,16 +50,16 @@ fn steps_text(
 fn reasoned_text(
     alloc: Global,
     format: Format,
-    leads: &Leads<'_, '_>,
+    workspace: &Workspace<'_>,
     words: &PlanWords<'_, '_, HeldSpecs<'_>>,
     steps: &[ReasonedStep<'_>],
 ) -> Result<Vec<u8>, AllocError>
-    ensures { IfOk result (λ text. text.items ≡ spec.reasoned_text format leads.now (words_text holds_on words.now) (map reasoned_view steps.now)) }
+    ensures { IfOk result (λ text. text.items ≡ spec.reasoned_text format (workspace_text workspace.now).packages (words_text holds_on words.now) (map reasoned_view steps.now)) }
 {
     let settings = settings_of(words);
     match format {
-        Format::Text => Ok(reasoned_lines(alloc, leads, &settings, steps)?.into_bytes()),
-        Format::Json => reasoned_objects(alloc, leads, &settings, steps),
+        Format::Text => Ok(reasoned_lines(alloc, workspace, &settings, steps)?.into_bytes()),
+        Format::Json => reasoned_objects(alloc, workspace, &settings, steps),
     }
 }
 
@@ -67,15 +67,15 @@ fn reasoned_text(
 fn text_with_reasons(
     alloc: Global,
     format: Format,
-    leads: &Leads<'_, '_>,
+    workspace: &Workspace<'_>,
     words: &PlanWords<'_, '_, HeldSpecs<'_>>,
     plan: &Plan<'_>,
     steps: &[WhyStep<'_>],
 ) -> Result<Vec<u8>, AllocError>
-    ensures { IfOk result (λ text. spec.IsReasonedText format leads.now (words_text holds_on words.now) (plan_text plan.now) (map why_text steps.now) text.items) }
+    ensures { IfOk result (λ text. spec.IsReasonedText format (workspace_text workspace.now).packages (words_text holds_on words.now) (plan_text plan.now) (map why_text steps.now) text.items) }
 {
     let reasoned = reasoned_steps(alloc, plan, steps)?;
-    reasoned_text(alloc, format, leads, words, &reasoned)
+    reasoned_text(alloc, format, workspace, words, &reasoned)
 }
 
 /// Returns the text of `steps`, which explain why a spot is on in `plan`. With `all` it has every direct reason of each step.
@@ -83,17 +83,17 @@ fn text_of(
     alloc: Global,
     format: Format,
     all: bool,
-    leads: &Leads<'_, '_>,
+    workspace: &Workspace<'_>,
     words: &PlanWords<'_, '_, HeldSpecs<'_>>,
     plan: &Plan<'_>,
     steps: &[WhyStep<'_>],
 ) -> Result<Vec<u8>, AllocError>
-    ensures { IfOk result (λ text. spec.IsStepsText format all leads.now (words_text holds_on words.now) (plan_text plan.now) (map why_text steps.now) text.items) }
+    ensures { IfOk result (λ text. spec.IsStepsText format all (workspace_text workspace.now).packages (words_text holds_on words.now) (plan_text plan.now) (map why_text steps.now) text.items) }
 {
     if all {
-        text_with_reasons(alloc, format, leads, words, plan, steps)
+        text_with_reasons(alloc, format, workspace, words, plan, steps)
     } else {
-        steps_text(alloc, format, leads, words, steps)
+        steps_text(alloc, format, workspace, words, steps)
     }
 }
 
@@ -102,16 +102,16 @@ fn found_shown(
     alloc: Global,
     format: Format,
     all: bool,
-    leads: &Leads<'_, '_>,
+    workspace: &Workspace<'_>,
     words: &PlanWords<'_, '_, HeldSpecs<'_>>,
     plan: &Plan<'_>,
     found: &Option<Vec<WhyStep<'_>>>,
 ) -> Result<Vec<Vec<u8>>, AllocError>
-    ensures { IfOk result (λ shown. spec.IsFoundShown format all leads.now (words_text holds_on words.now) (plan_text plan.now) (found_text found.now) (texts_of shown.items)) }
+    ensures { IfOk result (λ shown. spec.IsFoundShown format all (workspace_text workspace.now).packages (words_text holds_on words.now) (plan_text plan.now) (found_text found.now) (texts_of shown.items)) }
 {
     let mut shown = Vec::new(alloc);
     if let Some(steps) = found {
-        shown.push(text_of(alloc, format, all, leads, words, plan, steps)?)?;
+        shown.push(text_of(alloc, format, all, workspace, words, plan, steps)?)?;
     }
     Ok(shown)
 }
@@ -121,16 +121,16 @@ fn founds_shown(
     alloc: Global,
     format: Format,
     all: bool,
-    leads: &Leads<'_, '_>,
+    workspace: &Workspace<'_>,
     words: &PlanWords<'_, '_, HeldSpecs<'_>>,
     plan: &Plan<'_>,
     founds: &[Option<Vec<WhyStep<'_>>>],
 ) -> Result<Vec<Vec<u8>>, AllocError>
-    ensures { IfOk result (λ texts. AreShown (spec.IsFoundShown format all leads.now (words_text holds_on words.now) (plan_text plan.now)) (map found_text founds.now) (texts_of texts.items)) }
+    ensures { IfOk result (λ texts. AreShown (spec.IsFoundShown format all (workspace_text workspace.now).packages (words_text holds_on words.now) (plan_text plan.now)) (map found_text founds.now) (texts_of texts.items)) }
 {
     let mut texts = Vec::new(alloc);
     for found in founds {
-        let mut shown = found_shown(alloc, format, all, leads, words, plan, found)?;
+        let mut shown = found_shown(alloc, format, all, workspace, words, plan, found)?;
         texts.append(&mut shown)?;
     }
     Ok(texts)
@@ -162,8 +162,7 @@ fn spot_texts(
     ensures { IfOk result (λ texts. AreShown (spec.IsSpotShown format all (workspace_text workspace.now) (words_text holds_on words.now) (plan_text plan.now)) (map spot_text spots.now) (texts_of texts.items)) }
 {
     let founds = why_each(alloc, workspace, words, plan, spots)?;
-    let leads = Leads::new(alloc, workspace)?;
-    founds_shown(alloc, format, all, &leads, words, plan, &founds)
+    founds_shown(alloc, format, all, workspace, words, plan, &founds)
 }
 
 /// What `why` is asked for.

@@ -9,7 +9,7 @@ use shown_texts::escaped;
 use std::alloc::{AllocError, Global};
 
 /// Returns the text of `parts`, one after the other.
-fn text_of(alloc: Global, parts: &[&str]) -> Result<String, AllocError>
+pub(crate) fn text_of(alloc: Global, parts: &[&str]) -> Result<String, AllocError>
     ensures { IfOk result (λ text. string_bytes text ≡ parts_text parts.now) }
 {
     let mut text = String::new(alloc);

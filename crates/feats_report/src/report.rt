@@ -20,7 +20,7 @@ use crate::objects::{Member, page_object};
 use cargo_plans::built_parts::BuiltParts;
 use cargo_plans::{Plan, PlanWords, Platform};
 use cargo_workspaces::Workspace;
-use feats_why::{Leads, settings_of, why_objects};
+use feats_why::{settings_of, why_objects};
 use page_data::array_of_lines;
 use plan_whys::explanation;
 use plan_whys::links::{root_units, unit_links};
@@ -65,8 +65,7 @@ fn steps_text<P: Platform>(
     ensures { IfOk result (λ text. spec.IsStepsText (workspace_text workspace.now) (words_text P.holds words.now) (plan_text plan.now) text.items) }
 {
     let whys = explanation(alloc, workspace, words, plan)?;
-    let leads = Leads::new(alloc, workspace)?;
-    let lines = why_objects(alloc, &leads, &settings_of(words), &whys)?;
+    let lines = why_objects(alloc, workspace, &settings_of(words), &whys)?;
     array_of_lines(alloc, &lines)
 }
 

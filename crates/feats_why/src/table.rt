@@ -1,5 +1,6 @@
 //! An explanation as text in columns.
 ghost use Rattle.std.specs.Prelude.{◌≡◌, ◌++◌, ◌-◌, IfOk, OnOk, length, map, max, replicate, string_bytes};
+ghost use Rattle.cargo_workspaces.specs.WorkspaceView.{workspace_text};
 ghost use Rattle.feats_lines.specs.Lines as plan;
 ghost use Rattle.feats_why.specs.Lines as spec;
 ghost use Rattle.feats_why.specs.Settings.{settings_text};
@@ -9,9 +10,9 @@ ghost use Rattle.feats_why.specs.inner.Labelled.{AreLabels, packages_of};
 ghost use Rattle.feats_why.specs.inner.Rows.{row_text};
 
 use crate::labels::{Labels, labels_of};
-use crate::leads::Leads;
 use crate::rows::{Row, rows_of};
 use crate::settings::WhySettings;
+use cargo_workspaces::Workspace;
 use feats_lines::names_of;
 use plan_rows::Platform;
 use plan_whys::WhyStep;
@@ -101,16 +102,14 @@ pub(crate) fn table_of(alloc: Global, rows: &[Row]) -> Result<String, AllocError
 fn lines_by<P: Platform>(
     alloc: Global,
     labels: &Labels<'_, '_>,
-    leads: &Leads<'_, '_>,
     settings: &WhySettings<'_, P>,
     steps: &[WhyStep<'_>],
 ) -> Result<String, AllocError>
     requires labels { AreLabels labels.now }
     requires sides { labels.now.sides ≡ settings.now.split }
-    requires leads { leads.now ≡ packages_of labels.now }
     ensures { IfOk result (λ text. string_bytes text ≡ spec.why_lines (packages_of labels.now) (settings_text P.holds settings.now) (map why_text steps.now)) }
 {
-    let rows = rows_of(alloc, labels, leads, settings, steps)?;
+    let rows = rows_of(alloc, labels, settings, steps)?;
     table_of(alloc, &rows)
 }
 
@@ -118,50 +117,46 @@ fn lines_by<P: Platform>(
 fn each_by<P: Platform>(
     alloc: Global,
     labels: &Labels<'_, '_>,
-    leads: &Leads<'_, '_>,
     settings: &WhySettings<'_, P>,
     lists: &[&[WhyStep<'_>]],
 ) -> Result<Vec<String>, AllocError>
     requires labels { AreLabels labels.now }
     requires sides { labels.now.sides ≡ settings.now.split }
-    requires leads { leads.now ≡ packages_of labels.now }
     ensures { IfOk result (λ texts. map string_bytes texts.items ≡ map (spec.why_lines (packages_of labels.now) (settings_text P.holds settings.now)) (map steps_text lists.now)) }
 {
     let mut texts = Vec::with_capacity(alloc, lists.len())?;
     for steps in lists {
-        texts.push(lines_by(alloc, labels, leads, settings, *steps)?)?;
+        texts.push(lines_by(alloc, labels, settings, *steps)?)?;
     }
     Ok(texts)
 }
 
-/// Returns a line for each of `steps`, which are those of an explanation in the workspace of `leads`: the label of its spot, and the
-/// reason why it is on, in words. Steps at command features aren't shown. The labels are a column as wide as the widest. Control
-/// characters are escaped, the line feed too.
+/// Returns a line for each of `steps`, which are those of an explanation in `workspace`: the label of its spot, and the reason why it
+/// is on, in words. Steps at command features aren't shown. The labels are a column as wide as the widest. Control characters are escaped,
+/// the line feed too.
 pub fn why_lines<P: Platform>(
     alloc: Global,
-    leads: &Leads<'_, '_>,
+    workspace: &Workspace<'_>,
     settings: &WhySettings<'_, P>,
     steps: &[WhyStep<'_>],
 ) -> Result<String, AllocError>
-    ensures { IfOk result (λ text. string_bytes text ≡ spec.why_lines leads.now (settings_text P.holds settings.now) (map why_text steps.now)) }
+    ensures { IfOk result (λ text. string_bytes text ≡ spec.why_lines (workspace_text workspace.now).packages (settings_text P.holds settings.now) (map why_text steps.now)) }
 {
-    let packages = leads.packages();
-    let versions = names_of(alloc, packages)?;
-    let labels = labels_of(alloc, packages, &versions, settings.split)?;
-    lines_by(alloc, &labels, leads, settings, steps)
+    let versions = names_of(alloc, workspace.packages())?;
+    let labels = labels_of(alloc, workspace.packages(), &versions, settings.split)?;
+    lines_by(alloc, &labels, settings, steps)
 }
 
 /// Returns the lines of each of `lists`, as `why_lines` does.
 pub fn each_why_lines<P: Platform>(
     alloc: Global,
-    leads: &Leads<'_, '_>,
+    workspace: &Workspace<'_>,
     settings: &WhySettings<'_, P>,
     lists: &[&[WhyStep<'_>]],
 ) -> Result<Vec<String>, AllocError>
-    ensures { IfOk result (λ texts. map string_bytes texts.items ≡ map (spec.why_lines leads.now (settings_text P.holds settings.now)) (map steps_text lists.now)) }
+    ensures { IfOk result (λ texts. map string_bytes texts.items ≡ map (spec.why_lines (workspace_text workspace.now).packages (settings_text P.holds settings.now)) (map steps_text lists.now)) }
 {
-    let packages = leads.packages();
-    let versions = names_of(alloc, packages)?;
-    let labels = labels_of(alloc, packages, &versions, settings.split)?;
-    each_by(alloc, &labels, leads, settings, lists)
+    let versions = names_of(alloc, workspace.packages())?;
+    let labels = labels_of(alloc, workspace.packages(), &versions, settings.split)?;
+    each_by(alloc, &labels, settings, lists)
 }

@@ -18,7 +18,7 @@ use crate::told::Told;
 use crate::typed_words::{TypedWords, typed_text};
 use cargo_plans::PlanWords;
 use cargo_workspaces::Workspace;
-use feats_why::{Leads, settings_of, why_lines};
+use feats_why::{settings_of, why_lines};
 use feats_words::Format;
 use plan_names::wider::texts::{Said, push_widening};
 use plan_names::wider::widenings::Widening;
@@ -66,8 +66,7 @@ fn explained_lines(
 ) -> Result<Vec<u8>, AllocError>
     ensures { IfOk result (λ text. text.items ≡ widening_lines widening (on_by (lines_of (workspace_text workspace.now).packages (settings_by (words_text holds_on words.now)) (map why_text steps.now) ++ typed_line (option_map typed_value typed.entry)))) }
 {
-    let leads = Leads::new(alloc, workspace)?;
-    let steps = why_lines(alloc, &leads, &settings_of(words), steps)?;
+    let steps = why_lines(alloc, workspace, &settings_of(words), steps)?;
     let lines = with_typed(alloc, steps, typed)?;
     lines_by(alloc, widening, Said::On(lines.as_str()))
 }

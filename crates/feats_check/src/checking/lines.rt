@@ -19,7 +19,7 @@ use cargo_plans::PlanWords;
 use cargo_workspaces::Workspace;
 use feats_policies::Rule;
 use feats_policies::checks::{Judged, Verdict};
-use feats_why::{Leads, each_why_lines, settings_of};
+use feats_why::{each_why_lines, settings_of};
 use plan_rows::platforms::HeldSpecs;
 use plan_whys::WhyStep;
 use std::alloc::{AllocError, Global};
@@ -58,8 +58,7 @@ fn lines_of_founds(
     ensures { IfOk result (λ lines. map string_bytes lines.items ≡ map (spec.found_lines (workspace_text workspace.now).packages (words_text holds_on words.now)) (map found_text founds.now)) }
 {
     let lists = each_found(alloc, founds)?;
-    let leads = Leads::new(alloc, workspace)?;
-    each_why_lines(alloc, &leads, &settings_of(words), &lists)
+    each_why_lines(alloc, workspace, &settings_of(words), &lists)
 }
 
 /// Appends each of `others` after an empty line.

@@ -63,12 +63,14 @@ needs_of packages p t = option_map_or (λ x. option_map_or (λ t. t.required_fea
 abbrev pub needed_feature : Text → Text
 needed_feature feature = joined (codes " `" ∷ feature ∷ codes "`" ∷ [])
 
--- The message that target `t` of package `p` requires features which aren't all on.
-abbrev pub unmet_message : List PackageText → ℕ → ℕ → Text
-unmet_message packages p t =
+abbrev pub unmet_begin : List PackageText → ℕ → ℕ → Text
+unmet_begin packages p t =
     joined (codes "the target `" ∷ target_name packages p t ∷ codes "` of package " ∷ id_at packages p
     ∷ codes " requires features, and not all are on: add --features for" ∷ [])
-    ++ flat_map needed_feature (needs_of packages p t)
+
+-- The message that target `t` of package `p` requires features which aren't all on.
+abbrev pub unmet_message : List PackageText → ℕ → ℕ → Text
+unmet_message packages p t = unmet_begin packages p t ++ flat_map needed_feature (needs_of packages p t)
 
 abbrev pub step_message : List PackageText → StepFault → Text
 step_message packages (step.NoTests p) = joined (codes "package " ∷ id_at packages p ∷ codes " isn't a member of the workspace, and its tests need its dependencies for development: leave `--command test` out" ∷ [])

@@ -1,5 +1,5 @@
 //! The refusals of selections that have no plan.
-ghost use Rattle.std.specs.Prelude.{◌≡◌, ◌++◌, IfOk, OnOk, string_bytes};
+ghost use Rattle.std.specs.Prelude.{◌≡◌, ◌++◌, IfOk, OnOk, Some, flat_map, string_bytes};
 ghost use Rattle.cargo_workspaces.specs.Views.{texts};
 ghost use Rattle.cargo_workspaces.specs.WorkspaceView.{workspace_text};
 ghost use Rattle.cargo_plans.specs.Refusals.{is_memory};
@@ -7,6 +7,7 @@ ghost use Rattle.cargo_plans.specs.plan_starts.UnfitWords.{unfit_text};
 ghost use Rattle.feats_files.specs.Messages.{IsRefused};
 ghost use Rattle.feats_files.specs.plan_messages.Messages as spec;
 
+use crate::message::text_of;
 use crate::platforms::id_at;
 use crate::{Fault, push_escaped, push_package, refused};
 use cargo_plans::{PlanFault, Side, StepFault, UnfitWord, WordFault};
@@ -173,21 +174,28 @@ fn not_on_refused<'p>(
     )
 }
 
+/// Returns the refusal of `name`, which fits no target of the kind `kind` in the selected packages.
+fn unfit_refused<'p>(alloc: Global, kind: &'p str, name: &'p str) -> Fault
+    ensures { IsRefused (spec.no_target_message (kind.now, Some name.now)) result }
+{
+    refused(
+        alloc,
+        &[
+            "no selected package has a target of the kind `",
+            kind,
+            "` that fits `",
+            name,
+            "`: write its name, or a pattern with `*`",
+        ],
+    )
+}
+
 /// Returns the refusal of a word for targets that chooses none of the selected packages.
 fn no_target_refused(alloc: Global, word: UnfitWord<'_>) -> Fault
     ensures { IsRefused (spec.no_target_message (unfit_text word.entry)) result }
 {
     match word.name {
-        Some(name) => refused(
-            alloc,
-            &[
-                "no selected package has a target of the kind `",
-                word.kind,
-                "` that fits `",
-                name,
-                "`: write its name, or a pattern with `*`",
-            ],
-        ),
+        Some(name) => unfit_refused(alloc, word.kind, name),
         None => refused(
             alloc,
             &["no selected package has a library: leave --lib out"],
@@ -208,19 +216,6 @@ fn target_name<'w>(workspace: &'w Workspace<'_>, package: usize, target: usize) 
     }
 }
 
-/// Returns the features that target `target` of package `package` requires; none if there is no such target.
-fn needs_of<'w, 'v>(workspace: &'w Workspace<'v>, package: usize, target: usize) -> &'w [&'v str]
-    ensures { texts result.now ≡ spec.needs_of (workspace_text workspace.now).packages «package» target }
-{
-    match workspace.packages().get(package) {
-        Some(found) => match found.targets.get(target) {
-            Some(chosen) => &chosen.required_features,
-            None => &[],
-        },
-        None => &[],
-    }
-}
-
 /// Appends the name of a feature.
 fn push_feature(text: &mut String, feature: &str) -> Result<(), AllocError>
     ensures { OnOk result (string_bytes text.new ≡ string_bytes text.old ++ spec.needed_feature feature.now) }
@@ -229,6 +224,55 @@ fn push_feature(text: &mut String, feature: &str) -> Result<(), AllocError>
     text.push_str(feature)?;
     text.push_str("`")?;
     Ok(())
+}
+
+/// Appends the names of `features`.
+fn push_features(text: &mut String, features: &[&str]) -> Result<(), AllocError>
+    ensures { OnOk result (string_bytes text.new ≡ string_bytes text.old ++ flat_map spec.needed_feature (texts features.now)) }
+{
+    for feature in features {
+        push_feature(text, feature)?;
+    }
+    Ok(())
+}
+
+/// Appends the names of the features that target `target` of package `package` requires; nothing if there is no such target.
+fn push_needs(
+    text: &mut String,
+    workspace: &Workspace<'_>,
+    package: usize,
+    target: usize,
+) -> Result<(), AllocError>
+    ensures { OnOk result (string_bytes text.new ≡ string_bytes text.old ++ flat_map spec.needed_feature (spec.needs_of (workspace_text workspace.now).packages «package» target)) }
+{
+    let Some(found) = workspace.packages().get(package) else {
+        return Ok(());
+    };
+    let Some(chosen) = found.targets.get(target) else {
+        return Ok(());
+    };
+    push_features(text, &chosen.required_features)
+}
+
+/// Returns the begin of the message about a target that is chosen by its name.
+fn unmet_begin<'w>(
+    alloc: Global,
+    workspace: &'w Workspace<'_>,
+    package: usize,
+    target: usize,
+) -> Result<String, AllocError>
+    ensures { IfOk result (λ text. string_bytes text ≡ spec.unmet_begin (workspace_text workspace.now).packages «package» target) }
+{
+    text_of(
+        alloc,
+        &[
+            "the target `",
+            target_name(workspace, package, target),
+            "` of package ",
+            id_at(workspace, package),
+            " requires features, and not all are on: add --features for",
+        ],
+    )
 }
 
 /// Returns the message about a target that is chosen by its name, and requires a feature that isn't on.
@@ -240,15 +284,8 @@ fn unmet_message(
 ) -> Result<String, AllocError>
     ensures { IfOk result (λ text. string_bytes text ≡ spec.unmet_message (workspace_text workspace.now).packages «package» target) }
 {
-    let needs = needs_of(workspace, package, target);
-    let mut text = String::from_str(alloc, "the target `")?;
-    text.push_str(target_name(workspace, package, target))?;
-    text.push_str("` of package ")?;
-    text.push_str(id_at(workspace, package))?;
-    text.push_str(" requires features, and not all are on: add --features for")?;
-    for feature in needs {
-        push_feature(&mut text, feature)?;
-    }
+    let mut text = unmet_begin(alloc, workspace, package, target)?;
+    push_needs(&mut text, workspace, package, target)?;
     Ok(text)
 }
 

@@ -12,7 +12,7 @@ ghost use Rattle.feats_why.specs.Views.{steps_text};
 use crate::comparisons::differences::builds::Build;
 use cargo_plans::{Place, Side};
 use feats_diff::changes::{Change, Differences, Part};
-use feats_why::{Leads, each_why_lines, settings_of};
+use feats_why::{each_why_lines, settings_of};
 use feature_labels::FeatureLabel;
 use plan_whys::{Spot, WhyStep, last_step_each};
 use std::alloc::{AllocError, Global};
@@ -160,8 +160,7 @@ fn lines_of(
 {
     let settings = settings_of(build.words);
     let lists = lists_of(alloc, lasts)?;
-    let leads = Leads::new(alloc, build.workspace)?;
-    let lines = each_why_lines(alloc, &leads, &settings, &lists)?;
+    let lines = each_why_lines(alloc, build.workspace, &settings, &lists)?;
     without_feeds(alloc, &lines)
 }
 

@@ -1,13 +1,11 @@
-use Rattle.std.proofs.Common.{map, refl, subst}
+use Rattle.std.proofs.Common.{map, refl}
 use Rattle.std.proofs.lemmas.Result.{IfOk-weaker}
 use Rattle.cargo_plans.specs.WordsView.{words_text}
 use Rattle.cargo_workspaces.specs.WorkspaceView.{workspace_text}
 use Rattle.plan_rows.specs.platforms.HeldSpecs.{holds_on}
 use Rattle.cargo_plans.specs.plan_steps.PlanViews.{plan_text}
-use Rattle.plan_whys.specs.StepViews.{found_text, spot_text}
+use Rattle.plan_whys.specs.StepViews.{spot_text}
 use Rattle.feats_answers.specs.AnswerViews.{texts_of}
-use Rattle.feats_answers.specs.Gathered.{AreShown}
-use Rattle.feats_answers.specs.WhyTexts.{IsFoundShown}
 use Rattle.feats_answers.proofs.Found.{whys_shown}
 use Rattle.feats_answers.proofs.why_texts.spot_texts.Goals as goal
 
@@ -16,6 +14,5 @@ returns c =
     IfOk-weaker c.founds_shown.result _ _ (λ texts shows.
     whys_shown c.args.format c.args.all (workspace_text c.args.workspace.now) (words_text holds_on c.args.words.now) (plan_text c.args.plan.now) (map spot_text c.args.spots.now)
     c.args.spots.now c.args.spots.now c.in_ok-founds.founds.items c.deref.result.now (texts_of texts.items)
-    refl refl c.in_ok-founds.ensures c.deref.ensures.value
-    (subst (λ packages. AreShown (IsFoundShown c.args.format c.args.all packages (words_text holds_on c.args.words.now) (plan_text c.args.plan.now)) (map found_text c.deref.result.now) (texts_of texts.items)) c.in_ok-leads.ensures shows))
+    refl refl c.in_ok-founds.ensures c.deref.ensures.value shows)
     c.founds_shown.ensures
