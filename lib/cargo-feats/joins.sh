@@ -21,8 +21,8 @@ declare -A new_lines=()
 declare -A code_name=()
 # The names in the tables of the declarations that are no lines, and the names by which they call a package, by its name and the name in code, or `-`.
 declare -A own_keys=() own_names=()
-# What the last answer says: whether there are further lines, how many have no effect, and which packages and members are at fault.
-has_more='' without_effect=0
+# What the last answer says: whether there are further lines, whether some have no effect, and which packages and members are at fault.
+has_more='' without_effect=''
 declare -A differing=() unplanned=()
 
 # Ends if the option is none of the command. The answer for it is in JSON.
@@ -194,28 +194,43 @@ extend_line() {
   joined[$place]=$all
 }
 
-# Adds the lines of the answer of feats to `joined`, and notes what it says of packages and members. Cargo builds build-dependencies for a build
-# script alone.
+# Sets a variable to a text of an object, which has no escapes. The arguments are the name of both and the object.
+read_member() {
+  [[ $2 =~ [\{,]\"$1\":\"([^\"\\]*)\" ]] || fail "feats has no \`$1\` in its answer"
+  printf -v "$1" %s "${BASH_REMATCH[1]}"
+}
+
+# Adds a line of the answer to `joined`. Cargo builds build-dependencies for a build script alone. The argument is its object.
+read_join() {
+  local package name version place table=dependencies
+  read_member place "$1"
+  if [ "$place" = host ]; then table=build-dependencies; fi
+  if [ "$table" = build-dependencies ] && [ -z "${member[script]}" ]; then
+    without_effect=yes
+    return
+  fi
+  read_member package "$1"
+  read_member name "$1"
+  read_member version "$1"
+  [[ $1 =~ \"features\":\[([^]\\]*)\] ]] || fail "feats has no \`features\` in its answer"
+  join_name[$package]=$name join_version[$package]=$version
+  place=${BASH_REMATCH[1]//\"/}
+  extend_line "$table" "$package" ${place//,/ }
+}
+
+# Adds the lines of the answer of feats to `joined`, and notes what it says of packages and members.
 read_answer() {
-  local LC_ALL=C line id table form string='"([^"\\]*)"'
-  form="^\\{\"kind\":\"join\",\"id\":$string,\"name\":$string,\"version\":$string,\"place\":$string,\"features\":\\[([^]\\\\]*)\\],\"line\":"
-  has_more='' without_effect=0 differing=() unplanned=()
+  local LC_ALL=C line name version
+  has_more='' without_effect='' differing=() unplanned=()
   while IFS= read -r line; do
-    if [[ $line =~ $form ]]; then
-      id=${BASH_REMATCH[1]} table=dependencies line=${BASH_REMATCH[5]//\"/}
-      if [ "${BASH_REMATCH[4]}" = host ]; then table=build-dependencies; fi
-      if [ "$table" = build-dependencies ] && [ -z "${member[script]}" ]; then
-        without_effect=$((without_effect + 1))
-        continue
-      fi
-      join_name[$id]=${BASH_REMATCH[2]} join_version[$id]=${BASH_REMATCH[3]}
-      extend_line "$table" "$id" ${line//,/ }
-    elif [[ $line =~ ^\{\"kind\":\"([a-z]+)\",.*\"name\":$string,\"version\":$string ]]; then
-      case ${BASH_REMATCH[1]} in
-        alone) differing["${BASH_REMATCH[2]} ${BASH_REMATCH[3]}"]=yes ;;
-        refused) unplanned["${BASH_REMATCH[2]}"]=yes ;;
-      esac
-    fi
+    case $line in
+      *'"kind":"join"'*) read_join "$line" ;;
+      *'"kind":"alone"'* | *'"kind":"refused"'*)
+        read_member name "$line"
+        read_member version "$line"
+        if [[ $line = *'"kind":"alone"'* ]]; then differing["$name $version"]=yes; else unplanned[$name]=yes; fi
+        ;;
+    esac
   done <"$room/answer"
 }
 
@@ -280,7 +295,7 @@ listed() {
 
 # Says what the lines don't do.
 say_joins() {
-  [ "$without_effect" -eq 0 ] ||
+  [ -z "$without_effect" ] ||
     say "lines for [build-dependencies] are left out, because \`${member[name]}\` has no build script: Cargo builds them for a build script alone"
   [ ${#unplanned[@]} -eq 0 ] || say "these members have no plan alone, so the lines aren't for them: $(listed "${!unplanned[@]}")"
   [ ${#differing[@]} -eq 0 ] ||
