@@ -115,8 +115,8 @@ def list_text(plan, id):
 
 def list_objects(plan, id):
     package = plan.packages[id]
-    return objects_of({'id': id, 'name': package.name, 'version': package.version, 'feature': name if kind == 'feature' else None,
-                       'dependency': name if kind == 'dep' else None, 'target': sides[0], 'host': sides[1], 'items': items}
+    return objects_of({'package': id, 'name': package.name, 'version': package.version, 'feature': name if kind == 'feature' else None,
+                       'dependency': name if kind == 'dep' else None, 'sides': [side for side, is_on in zip((TARGET, HOST), sides) if is_on], 'items': items}
                       for kind, name, sides, items in listed_features(plan, id))
 
 

@@ -22,9 +22,9 @@ class Deep(NamedTuple):
     last_node: str
 
 
-def graph_of(titles, links, roots, ids):
+def graph_of(titles, links, roots, details):
     """Returns the graph of nodes, which are in the order of `titles`."""
-    return tree_model.Graph(list(titles), links, roots, titles, ids, [], {it: number for number, it in enumerate(titles)})
+    return tree_model.Graph(list(titles), links, roots, titles, details, [], {it: number for number, it in enumerate(titles)})
 
 
 def chain(n, more=()):
@@ -35,7 +35,8 @@ def chain(n, more=()):
     ids = {it['name']: it['id'] for it in document['packages']}
     nodes = sorted(ids, key=lambda it: ids[it].encode())
     links = {('a', 'p0'), *(('a', f'p{i}') for i in more), *((f'p{i}', f'p{i + 1}') for i in range(n - 1))}
-    graph = graph_of({it: f'{it} 1.0.0' for it in nodes}, links, {'a'}, ids)
+    details = {it: {'package': ids[it], 'name': it, 'version': '1.0.0', 'place': 'target'} for it in nodes}
+    graph = graph_of({it: f'{it} 1.0.0' for it in nodes}, links, {'a'}, details)
     return Deep(f'chain of {n} packages and {more}', document, graph, [], f'p{n - 1}', f'p{n - 1}')
 
 
@@ -45,7 +46,9 @@ def feature_chain(n):
     names = sorted(document['packages'][0]['features'], key=str.encode)
     titles = {name: f'a/{name}' if name else 'a' for name in ['', *names]}
     links = {*((name, '') for name in names), ('default', 'f0'), *((f'f{i}', f'f{i + 1}') for i in range(n - 1))}
-    graph = graph_of(titles, links, {'', 'default'}, dict.fromkeys(titles, document['packages'][0]['id']))
+    package = {'package': document['packages'][0]['id'], 'name': 'a', 'version': '1.0.0'}
+    details = {it: {**package, 'feature': it or None, 'dependency': None, 'side': 'target'} for it in titles}
+    graph = graph_of(titles, links, {'', 'default'}, details)
     return Deep(f'chain of {n} features', document, graph, ['-e', 'features'], f'a/f{n - 1}', f'f{n - 1}')
 
 

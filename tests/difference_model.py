@@ -146,11 +146,11 @@ def without_whys(text):
 # JSON.
 
 def head(kind, part):
-    return {'difference': kind, 'place': part.place, 'id': part.package.id, 'name': part.package.name, 'version': part.package.version}
+    return {'difference': kind, 'place': part.place, 'package': part.package.id, 'name': part.package.name, 'version': part.package.version}
 
 
 def changed_object(old, new):
-    return {**head('features' if is_same(old, new) else 'version', new), 'old-id': old.package.id, 'old-version': old.package.version, 'features': new.features,
+    return {**head('features' if is_same(old, new) else 'version', new), 'old-package': old.package.id, 'old-version': old.package.version, 'features': new.features,
             'comes': missing(new.features, old.features), 'goes': missing(old.features, new.features)}
 
 

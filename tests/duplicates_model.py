@@ -157,7 +157,7 @@ def text_of(plan, lines):
 
 def objects_text_of(plan, lines):
     def head(kind, package):
-        return {'kind': kind, 'id': package.id, 'name': package.name, 'version': package.version}
+        return {'kind': kind, 'package': package.id, 'name': package.name, 'version': package.version}
 
     return objects_of({**head(kind, plan.packages[id]), **said} for kind, id, said in lines)
 

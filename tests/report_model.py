@@ -13,7 +13,7 @@ import link_model
 from link_model import name_of_place, root_units, unit_links, units_of
 
 MEMBERS = ['version', 'units', 'roots', 'links', 'declarations', 'steps', 'features', 'specs']
-VERSION = 1
+VERSION = 2
 # The characters that the data of a page must not contain, each with its escape.
 UNSAFE = {character: f'\\u{ord(character):04x}' for character in '<>&\u2028\u2029'}
 WRONG = re.compile(f'[{"".join(UNSAFE)}\x00-\x09\x0b-\x1f\x7f-\x9f]')
@@ -27,7 +27,7 @@ def units(plan):
     for place, id in units_of(plan):
         package = plan.packages[id]
         features = sorted(plan.features(plan.side_of(place), id), key=str.encode)
-        yield {'place': name_of_place(plan, place), 'id': id, 'name': package.name, 'version': package.version, 'features': features}
+        yield {'place': name_of_place(plan, place), 'package': id, 'name': package.name, 'version': package.version, 'features': features}
 
 
 def built_ids(plan):

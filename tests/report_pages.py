@@ -134,7 +134,7 @@ def worded(it, name, words):
 
 def packages_of(it):
     """The packages of units, each with its name and version."""
-    return {unit['id']: unit for unit in it.value['units']}
+    return {unit['package']: unit for unit in it.value['units']}
 
 
 def searched(it, name, word):
@@ -159,7 +159,7 @@ def searched(it, name, word):
 def package_shown(it, name, id):
     """Yields the outcomes of a package's view: its features, on and off, with their items."""
     it.go(f'#id:{quote(id, safe="")}')
-    lines = [line for line in it.value['features'] if line['id'] == id]
+    lines = [line for line in it.value['features'] if line['package'] == id]
     unit = packages_of(it)[id]
     yield outcome(f'{name}: the title of {unit["name"]!a}', (it.view(), it.texts('#view h1')), ('package', [f'{shown(unit["name"])} {unit["version"]}']))
     on = [step for step in it.value['steps'] if step['package'] == id]
@@ -211,11 +211,11 @@ def dependencies_shown(it, name, id):
     """Yields the outcomes of what depends on a package, and on what it depends, with the declarations."""
     it.go(f'#id:{quote(id, safe="")}')
     units = it.value['units']
-    own = {ix for ix, unit in enumerate(units) if unit['id'] == id}
+    own = {ix for ix, unit in enumerate(units) if unit['package'] == id}
     for selector, ends in (('#dependents', {a: b for a, b in it.value['links'] if b in own}), ('#dependencies', {b: a for a, b in it.value['links'] if a in own})):
         wanted = []
         for unit in map(units.__getitem__, ends):
-            both = (unit['id'], id) if selector == '#dependents' else (id, unit['id'])
+            both = (unit['package'], id) if selector == '#dependents' else (id, unit['package'])
             wanted.append(f'{shown(unit["name"])} {unit["version"]} {unit["place"]}{declared(it, *both)}')
         yield outcome(f'{name}: {selector} of {id!a}', sorted(it.texts(f'{selector} li')), sorted(wanted))
 
@@ -332,8 +332,8 @@ def changed(data):
     yield 'a reason that begins nowhere', text(lambda it: it['steps'][own(it, lambda step: step['reason'] == 'turns-on')].update({'from': None}))
     yield 'a gate that is later', text(lambda it: it['steps'][0].update({'gate': spot_of(it['steps'][-1])}))
     yield 'a feature without a reason', text(lambda it: it['units'][0]['features'].append('more'))
-    yield 'a feature that is listed as on', text(lambda it: next(line for line in it['features'] if not line['target'] and not line['host']).update({'target': True}))
-    yield 'a feature that is listed as off', text(lambda it: next(line for line in it['features'] if line['target']).update({'target': False}))
+    yield 'a feature that is listed as on', text(lambda it: next(line for line in it['features'] if not line['sides']).update({'sides': ['target']}))
+    yield 'a feature that is listed as off', text(lambda it: next(line for line in it['features'] if 'target' in line['sides'])['sides'].remove('target'))
     for end in ('package', 'to'):
         yield f'a declaration whose `{end}` isn’t built', text(lambda it: it['declarations'][0].update({end: 'path+file:///a#other@1.0.0'}))
     yield 'a link to no unit', text(lambda it: it['links'].append([0, len(it['units'])]))
@@ -362,8 +362,8 @@ def refused(page, path, data):
         it.open()
         found = it.check(), it.texts('#view h1')[0].partition('; ')[2], it.count('#words'), it.page.messages
         yield outcome(f'the check with {name}', found, ('failed', 'the check failed', 0, []))
-    for name, text in (('no data', ''), ('the template', 'DATA'), ('another version', '{"version":2}'), ('an array that lacks', '{"version":1,"units":[]}'),
-                       ('no JSON', '{"version":1'), ('other values', '{"version":1,"units":[1],"roots":[],"links":[],"steps":[],"features":[],"specs":[]}')):
+    for name, text in (('no data', ''), ('the template', 'DATA'), ('another version', '{"version":1}'), ('an array that lacks', '{"version":2,"units":[]}'),
+                       ('no JSON', '{"version":2'), ('other values', '{"version":2,"units":[1],"roots":[],"links":[],"steps":[],"features":[],"specs":[]}')):
         path.write_text(page_of(f'{text}\n'), encoding='utf-8')
         page.open(path)
         found = page.value('[document.getElementById("check").dataset.state, document.getElementById("view").dataset.view]')
@@ -373,7 +373,7 @@ def refused(page, path, data):
 def unbroken(it):
     """Yields the outcomes of names that try to break out: the page shows each as text, and makes no element or script of it."""
     elements = '[document.scripts.length, document.querySelectorAll("img, iframe, object, embed, link, base, form").length, typeof window.bad]'
-    names = {unit['id']: unit['name'] for unit in it.value['units']}
+    names = {unit['package']: unit['name'] for unit in it.value['units']}
     for id, name in names.items():
         it.go(f'#id:{quote(id, safe="")}')
         yield outcome(f'the name {name!a}', (it.texts('#view h1'), it.get(elements)), ([f'{shown(name)} 1.0.0'], [2, 0, 'undefined']))

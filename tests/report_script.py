@@ -17,7 +17,7 @@ from plan_files import HOST, TOP
 from report_documents import HOSTILE
 
 TEMPLATE = (TOP / 'lib/cargo-feats/report.html').read_text(encoding='utf-8')
-DATA = '{"version":1,\n"units":[\n]}\n'
+DATA = '{"version":2,\n"units":[\n]}\n'
 CARGO = '''#!/bin/bash
 echo "cargo $*" >>"$LOG"
 case $1 in

@@ -179,7 +179,7 @@ def text_of(plan, slims):
 
 
 def object_of(plan, slim):
-    part = {'without': slim.edit.without, 'feature': slim.edit.feature, 'packages': slim.packages, 'features': slim.features}
+    part = {'without': slim.edit.without, 'feature': slim.edit.feature, 'lost-packages': slim.packages, 'lost-features': slim.features}
     if slim.edit.name is not None:
         return {'package': None, 'dependency': slim.edit.name, 'kind': None, 'platform': None, **part}
     declaration = plan.packages[slim.edit.member].declarations[slim.edit.number]

@@ -39,7 +39,7 @@ class Graph(NamedTuple):
     links: set
     roots: set
     titles: dict
-    ids: dict               # of the nodes' packages
+    details: dict           # what objects show of the nodes
     clusters: list          # each with its label and its nodes
     numbers: dict
 
@@ -53,13 +53,19 @@ def title_of_unit(plan, unit):
     return plan.label(plan.packages[id]) + (f' ({name_of_place(plan, place)})' if is_marked else '')
 
 
+def detail_of(plan, id, **at):
+    """What an object shows of a package, and where the node is."""
+    package = plan.packages[id]
+    return {'package': id, 'name': package.name, 'version': package.version, **at}
+
+
 def package_graph(plan):
     units = units_of(plan)
     places = [*range(len(plan.selection.platforms())), HOST]
     clusters = [(name_of_place(plan, place), [it for it in units if it[0] == place]) for place in places]
     titles = {it: title_of_unit(plan, it) for it in units}
-    return Graph(units, unit_links(plan), root_units(plan), titles, {it: it[1] for it in units}, clusters,
-                 {it: number for number, it in enumerate(units)})
+    details = {it: detail_of(plan, it[1], place=name_of_place(plan, it[0])) for it in units}
+    return Graph(units, unit_links(plan), root_units(plan), titles, details, clusters, {it: number for number, it in enumerate(units)})
 
 
 # Features.
@@ -90,12 +96,17 @@ def title_of_spot(plan, node):
     return (package.name if is_alone else plan.label(package)) + part + (' (host)' if plan.selection.is_split and side == HOST else '')
 
 
+def detail_of_spot(plan, node):
+    (side, id), kind, name = node
+    return detail_of(plan, id, feature=name if kind == 'feature' else None, dependency=name if kind == 'dep' else None, side=side)
+
+
 def feature_graph(plan):
     all, links = list(ordered_nodes(plan)), spot_links(plan)
     nodes = [it for it in all if not is_command(it)]
     return Graph(
         nodes, {link for link in links if not any(map(is_command, link))}, {b for a, b in links if is_command(a) and not is_command(b)},
-        {it: title_of_spot(plan, it) for it in nodes}, {it: it[0][1] for it in nodes},
+        {it: title_of_spot(plan, it) for it in nodes}, {it: detail_of_spot(plan, it) for it in nodes},
         [(side, [it for it in nodes if it[0][0] == side]) for side in (TARGET, HOST)], {it: number for number, it in enumerate(all)})
 
 
@@ -137,7 +148,7 @@ def tree_text(graph, wanted=None, limit=None):
 
 def tree_objects(graph, wanted=None, limit=None):
     lines, is_cut = lines_of(graph, wanted, limit)
-    objects = [{'depth': len(lasts), 'id': graph.ids[node], 'title': graph.titles[node], 'again': again} for node, lasts, again in lines]
+    objects = [{'depth': len(lasts), **graph.details[node], 'again': again} for node, lasts, again in lines]
     return objects_of([*objects, *[CUT_OBJECT] * is_cut])
 
 

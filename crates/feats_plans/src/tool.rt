@@ -3,6 +3,7 @@
 mod answered;
 mod answers;
 mod engine;
+mod exclusions;
 pub mod lost_dependencies;
 mod rules;
 mod visitor;

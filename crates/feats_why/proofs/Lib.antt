@@ -1,3 +1,5 @@
+pub mod Between
+pub mod Grouped
 pub mod Loops
 pub mod Members
 pub mod Pushed

@@ -1,3 +1,4 @@
 -- Definitions that only contracts of private functions use.
 pub mod Labelled
+pub mod Leads
 pub mod Rows

@@ -58,7 +58,7 @@ without_tests t = record { name = t.name; feature = t.feature; test = false }
 abbrev pub by_feature : TypedText → List TypedText
 by_feature t = without_feature t ∷ (if is_some t.feature then t ∷ [] else [])
 
--- First without tests, if the command line doesn't have them: `here` is whether it does.
+-- First without tests, if dependencies for development don't count by the command line: `here` is whether they do.
 abbrev pub by_size : Bool → TypedText → List TypedText
 by_size here t = (if t.test && not here then by_feature (without_tests t) else []) ++ by_feature t
 
@@ -66,8 +66,8 @@ abbrev pub sizes_of : Bool → Option TypedText → List TypedText
 sizes_of here None = []
 sizes_of here (Some t) = by_size here t
 
--- THE WORDS THAT ARE TRIED: those with which the explanation begins, after all that lack some of them. `test` is whether its plan has tests.
--- None are tried if the part isn't alone: each needs a plan.
+-- THE WORDS THAT ARE TRIED: those with which the explanation begins, after all that lack some of them. `test` is whether dependencies for
+-- development count in its plan. None are tried if the part isn't alone: each needs a plan.
 abbrev pub tries_of : Bool → List PackageText → Bool → Bool → List WhyText → List TypedText
 tries_of true packages here test whys = sizes_of here (first_words packages test whys)
 tries_of false packages here test whys = []

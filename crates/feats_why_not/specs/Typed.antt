@@ -17,7 +17,8 @@ use Rattle.feats_why_not.specs.Tries.{TypedText, one_text, tries_of}
 abbrev pub typed_selection : Bool → TypedText → SelectionText
 typed_selection split t = record { packages = named (t.name ∷ []); features = one_text t.feature; all_features = false; no_default_features = false; split = split }
 
--- The words of a command line with this resolver and these platforms. They have no words for targets, besides that for tests.
+-- The words of a command line with this resolver and these platforms, for the build of `cargo test` or of `cargo build`. They have no words
+-- for targets.
 abbrev pub typed_words : WordsText → TypedText → WordsText
 typed_words here t = record { selection = typed_selection here.selection.split t; choice = of_command t.test; host = here.host; targets = here.targets }
 

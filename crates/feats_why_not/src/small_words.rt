@@ -112,7 +112,8 @@ fn first_built<'t>(
     Ok(None)
 }
 
-/// Returns the words to type for `part`, which is on by `steps`. `test` is whether the plan of the steps has tests.
+/// Returns the words to type for `part`, which is on by `steps`. `test` is whether dependencies for development count in the plan of the
+/// steps.
 fn small_words<'p>(
     alloc: Global,
     base: Base<'p, '_, '_, '_, '_, '_>,

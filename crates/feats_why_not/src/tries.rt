@@ -128,7 +128,8 @@ fn push_by_feature<'t>(
     Ok(())
 }
 
-/// Returns `typed`, after all that lack some of its words. `here` is whether the command line has tests: then they stay.
+/// Returns `typed`, after all that lack some of its words. `here` is whether dependencies for development count by the command line: then
+/// the words for tests stay.
 fn by_size<'t>(
     alloc: Global,
     here: bool,
@@ -166,8 +167,8 @@ fn sizes_of<'t>(
     }
 }
 
-/// Returns the words that are tried for a part that is on by `steps`; none if it isn't alone. `test` is whether the plan of the steps has
-/// tests.
+/// Returns the words that are tried for a part that is on by `steps`; none if it isn't alone. `test` is whether dependencies for
+/// development count in the plan of the steps.
 pub(crate) fn tries_of<'t>(
     alloc: Global,
     base: Base<'t, '_, '_, '_, '_, '_>,

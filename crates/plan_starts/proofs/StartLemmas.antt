@@ -2,7 +2,6 @@
 use Rattle.std.proofs.Common.{◌≡◌, ◌&&◌, ◌∙◌, ℕ, Bool, true, false, List, ap, if◌then◌else◌}
 use Rattle.std.specs.Prelude.{None, Option}
 use Rattle.digraphs.specs.Bits.{has}
-use Rattle.cargo_workspaces.specs.Workspaces.{PackageText}
 use Rattle.plan_rows.specs.Tables.{each_from}
 use Rattle.plan_starts.specs.Lists.{first_from}
 use Rattle.plan_starts.specs.Starts.{Starts, first_unmet, is_among, started, starts_of, starts_on_host, unmet_target}

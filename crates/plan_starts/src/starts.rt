@@ -1,5 +1,5 @@
 //! The packages that start, and where.
-ghost use Rattle.std.specs.Prelude.{◌≡◌, ◌&&◌, IfOk, IsTrue, None, if◌then◌else◌, length, map, nat_lt, true};
+ghost use Rattle.std.specs.Prelude.{◌≡◌, ◌<◌, ◌&&◌, IfOk, IsTrue, None, if◌then◌else◌, length, map, nat_lt, true};
 ghost use Rattle.std.specs.List.{list_all};
 ghost use Rattle.digraphs.specs.Bits.{has};
 ghost use Rattle.cargo_workspaces.specs.Views.{package_text};
@@ -108,7 +108,7 @@ fn unmet_at<P: Platform>(
     ix: usize,
     package: &Package<'_>,
 ) -> Result<Option<(usize, usize)>, AllocError>
-    requires { length selected.now ≡ length rules.now.packages.now }
+    requires { ix < length selected.now }
     ensures { IfOk result (λ found. found ≡ (if has selected.now ix then first_from (spec.unmet_target (rules_text P.holds rules.now) ix (package_text «package».now)) 0 (package_text «package».now).targets else None)) }
 {
     if selected.contains(ix) {

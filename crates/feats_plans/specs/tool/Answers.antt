@@ -8,6 +8,7 @@ use Rattle.feats_files.specs.Showing.{shown_in}
 use Rattle.feats_plans.specs.Inputs.{InputsText}
 use Rattle.feats_plans.specs.Planned.{PlannedText}
 use Rattle.feats_plans.specs.Planning.{AfterPlanning, IsPlanningRefusal}
+use Rattle.feats_plans.specs.tool.Exclusions.{exclusion_lines}
 use Rattle.feats_plans.specs.tool.Rules.{AreRules, IsRulesRefusal}
 use Rattle.feats_words.specs.Requests.{QuestionText, check}
 use Rattle.feats_plans.specs.tool.lost_dependencies.Lost.{lost_lines}
@@ -32,11 +33,11 @@ abbrev pub AreRuleWarnings : QuestionText → List RuleText → PlannedText → 
 AreRuleWarnings (check file every_choice strict) rules p lines = ArePolicyWarnings (policy_words file every_choice strict rules) p.workspace p.words lines
 AreRuleWarnings _ rules p lines = lines ≡ []
 
--- The warnings: those about the document, and those about the rules.
+-- The warnings: those about the document, about the words of `--exclude`, and about the rules.
 pub record AreWarnings (rules : List RuleText) (p : PlannedText) (lines : List Text) : Type 0 where
   pub of_rules : List Text
   pub are_of_rules : AreRuleWarnings p.inputs.arguments.question rules p of_rules
-  pub are_lines : lines ≡ lost_lines p.words.host p.words.targets p.workspace ++ of_rules
+  pub are_lines : lines ≡ lost_lines p.words.host p.words.targets p.workspace ++ exclusion_lines p.workspace p.inputs.arguments.exclude ++ of_rules
 
 -- The message about a rule whose word names nothing, if each must name something.
 abbrev pub IsStrictly : QuestionText → List RuleText → PlannedText → Text → Type 0

@@ -13,6 +13,7 @@ ghost use Rattle.plan_rows.specs.platforms.Views.{declared_text};
 ghost use Rattle.feats_policies.specs.Views.{rule_text};
 
 use crate::tool::answered::Answered;
+use crate::tool::exclusions::exclusion_lines;
 use crate::tool::lost_dependencies::lost_lines;
 use crate::{PlanVisitor, Planned};
 use feats_answers::{Answer, Asked, answer_to};
@@ -49,7 +50,7 @@ fn rule_warnings(
     }
 }
 
-/// Returns the warnings about the document of the plan, and then those about `rules`, which are those of the policy.
+/// Returns the warnings about the document of the plan, about the words of `--exclude`, and about `rules`, which are those of the policy.
 fn warnings_of(
     alloc: Global,
     rules: &[Rule<'_>],
@@ -60,7 +61,9 @@ fn warnings_of(
 {
     let words = planned.words;
     let mut of_rules = rule_warnings(alloc, rules, planned)?;
+    let mut of_words = exclusion_lines(alloc, planned.workspace, &planned.arguments.exclude)?;
     let mut warnings = lost_lines(alloc, planned.workspace, words.host, words.targets)?;
+    warnings.append(&mut of_words)?;
     warnings.append(&mut of_rules)?;
     Ok(warnings)
 }

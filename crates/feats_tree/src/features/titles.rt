@@ -12,9 +12,9 @@ ghost use Rattle.feats_tree.specs.features.Titles as spec;
 use crate::packages::{detail_at, titled_text};
 use crate::trees::{At, Detail};
 use cargo_workspaces::{Package, Workspace};
-use feature_labels::FeatureLabel;
 use feats_why::spot_labels;
 use feats_words::Format;
+use feature_labels::FeatureLabel;
 use plan_whys::links::{Side, Spot};
 use std::alloc::{AllocError, Global};
 

@@ -47,11 +47,15 @@ fn place_name<'n>(names: &[&'n str], place: Place) -> &'n str
 fn unit_detail<'p>(names: &[&'p str], packages: &'p [Package<'_>], unit: &Unit<'_>) -> Detail<'p>
     ensures { detail_text result ≡ spec.unit_detail (texts names.now) (map package_text packages.now) (unit_text unit.now) }
 {
-    detail_at(packages, unit.package, At::Place(place_name(names, unit.place)))
+    detail_at(
+        packages,
+        unit.package,
+        At::Place(place_name(names, unit.place)),
+    )
 }
 
 /// Returns what objects show of each of `units`. `names` are those of the target platforms.
-pub(crate) fn details_of<'p>(
+pub fn details_of<'p>(
     alloc: Global,
     names: &[&'p str],
     packages: &'p [Package<'_>],
@@ -67,7 +71,7 @@ pub(crate) fn details_of<'p>(
 }
 
 /// Returns `titles` with `details`.
-pub(crate) fn titles_with<'t>(
+pub fn titles_with<'t>(
     alloc: Global,
     titles: &'t [String],
     details: &[Detail<'t>],

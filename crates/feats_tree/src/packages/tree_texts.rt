@@ -10,7 +10,8 @@ ghost use Rattle.feats_tree.specs.packages.Trees as spec;
 use crate::packages::details::{details_of, titles_with};
 use crate::packages::titles::titles_of;
 use crate::trees::{
-    Branch, Detail, Title, branch_lines, branch_objects, branches, limit_of, with_cut_line, with_cut_object,
+    Branch, Detail, Title, branch_lines, branch_objects, branches, limit_of, with_cut_line,
+    with_cut_object,
 };
 use cargo_plans::plan_steps::Unit;
 use cargo_workspaces::Package;

@@ -62,8 +62,8 @@ PlanOfWordsExcludesRefusal = (w : WorkspaceText) (words : WordsText) (p : PlanTe
 abbrev pub with_split : SettingsText → Bool → SettingsText
 with_split s split = record { split = split; choice = s.choice; commands = s.commands; host = s.host; targets = s.targets }
 
--- Whether a declaration counts alike with each resolver: it isn't for builds; if it is for development, tests are built; and it is used on
--- one of the targets.
+-- Whether a declaration counts alike with each resolver: it isn't for builds; if it is for development, such dependencies count; and it is
+-- used on one of the targets.
 abbrev pub IsDeclaredAlike : SettingsText → DeclarationText → Type 0
 IsDeclaredAlike s d =
     IsFalse (is_build d.kind) × (IsTrue (is_development d.kind) → IsTrue (needs_development s.choice)) × IsTrue (list_any (λ holds. admits holds d.platform) s.targets)

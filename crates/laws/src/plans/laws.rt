@@ -27,15 +27,15 @@ pub fn more_turns_nothing_off()
     ensures words { MoreWordsTurnNothingOff }
 {}
 
-/// States that larger settings turn nothing off: with tests, more command features, and more platform specs that hold, all that was on is
-/// on, on the same side.
+/// States that larger settings turn nothing off: with dependencies for development, more command features, and more platform specs that
+/// hold, all that was on is on, on the same side.
 pub fn larger_turns_nothing_off()
     ensures { LargerTurnsNothingOff }
 {}
 
-/// States that all members with all their features, with tests, and with each platform spec of the workspace, turn on all that any other
-/// words do, if these have the same resolver and ask for no feature of a dependency on their own. So what is off in that plan is off in
-/// each of theirs.
+/// States that all members with all their features, with dependencies for development, and with each platform spec of the workspace, turn
+/// on all that any other words do, if these have the same resolver and ask for no feature of a dependency on their own. So what is off in
+/// that plan is off in each of theirs.
 pub fn no_selection_turns_on()
     ensures widest { WidestTurnsAllOn }
     ensures off { NoSelectionTurnsOn }

@@ -1,8 +1,5 @@
-use Rattle.std.proofs.Common.{◌≡◌, ℕ, Bool, ◌++◌, ◌∷◌, [], if◌then◌else◌, drop, map}
-use Rattle.feature_labels.specs.Names.{LabelName}
-use Rattle.feature_labels.specs.Names.LabelName.{base}
+use Rattle.std.proofs.Common.{◌≡◌, ◌++◌, drop, map}
 use Rattle.plan_starts.specs.step_visits.Visits.{place_view}
-use Rattle.plan_starts.specs.Lists.{joined_from}
 use Rattle.plan_starts.specs.Starts as spec
 use Rattle.plan_starts.proofs.flags.bases_of.Given as goal
 

@@ -12,4 +12,4 @@ abbrev pub invariant-loop-ix : goal.invariant-loop-ix
 invariant-loop-ix g l =
     let r = rules_text g.P.Platform.holds l.rules in
     let f : ℕ → PackageText → Option (ℕ × ℕ) = λ p x. if has l.selected p then first_from (spec.unmet_target r p x) 0 x.targets else None in
-    first_from f 0 (map package_text l.rules.packages) ≡ first_from f l.ix (map package_text (drop l.ix l.rules.packages))
+    first_from f 0 (map package_text l.rules.packages.now) ≡ first_from f l.ix (map package_text (drop l.ix l.rules.packages.now))
