@@ -61,20 +61,20 @@ find_member() {
         return
         ;;
     esac
-  done < <(sed -E 's/\{"name":"[^"\\]*","version":"[^"\\]*","id":"/\n&/g' "$room/members")
+  done < <(LC_ALL=C sed -E 's/\{"name":"[^"\\]*","version":"[^"\\]*","id":"/\n&/g' "$room/members")
   fail "no member of the workspace is \`$join_word\`: the members are $(listed "${names[@]}")"
 }
 
 # Prints the number of the first line of the document with a text. Returns whether there is one.
 number_of() {
   local found
-  found=$(grep -n -m 1 -aF -- "$1" "$room/lines") && printf '%s\n' "${found%%:*}"
+  found=$(LC_ALL=C grep -n -m 1 -aF -- "$1" "$room/lines") && printf '%s\n' "${found%%:*}"
 }
 
 # Puts the document into lines, and sets `declared` and `used` to those about what the member declares and uses, with the places of the first.
 split_document() {
   local LC_ALL=C
-  sed 's/{"name":"/\n&/g; s/{"id":"/\n&/g' "$room/document" >"$room/lines"
+  LC_ALL=C sed 's/{"name":"/\n&/g; s/{"id":"/\n&/g' "$room/document" >"$room/lines"
   declared_at=$(number_of "{\"name\":\"${member[name]}\",\"version\":\"${member[version]}\",\"id\":\"${member[id]}\",") &&
     used_at=$(number_of "{\"id\":\"${member[id]}\",\"dependencies\":[") || fail "\`$cargo metadata\` doesn't say what \`${member[name]}\` depends on"
   mapfile -t declared < <(sed -n "$declared_at,\${p;/],\"targets\":\\[/q}" "$room/lines")
@@ -94,7 +94,7 @@ find_code_names() {
       '{"name":"'*) id=${line##*'"id":"'} ;;
       *) [ -n "${code_name[$id]-}" ] || code_name[$id]=${line##*'"name":"'} ;;
     esac
-  done < <(grep -aoE "$head|$library" "$room/lines")
+  done < <(LC_ALL=C grep -aoE "$head|$library" "$room/lines")
 }
 
 # Writes the document with the lines of `joined` in place of those that the manifest has to the file `joined`.
@@ -153,18 +153,18 @@ find_key() {
 
 # Adds a line to the document. The arguments are its table, the id of its package and the features.
 add_line() {
-  local key kind=null rename=null code=${code_name[$2]-${join_name[$2]}} features=${3# } mark place
+  local key kind=null rename=null library=${code_name[$2]-${join_name[$2]}} code features=${3# } mark place
   find_key "$2"
   [ -z "${own_keys[$1 $key]-}" ] || fail "\`$key\` is in [$1] of \`${member[manifest]}\` outside of the marks: remove it there, or name another member"
   if [ "$1" = build-dependencies ]; then kind='"build"'; fi
-  if [ "$key" != "${join_name[$2]}" ]; then rename=\"$key\" code=$key; fi
-  code=${code//-/_}
+  library=${library//-/_} code=$library
+  if [ "$key" != "${join_name[$2]}" ]; then rename=\"$key\" code=${key//-/_}; fi
   declarations+=",{\"name\":\"${join_name[$2]}\",\"source\":\"$CRATES_IO\",\"req\":\"=${join_version[$2]}\",\"kind\":$kind,\"rename\":$rename,\"optional\":false,"
   declarations+="\"uses_default_features\":false,\"features\":[${features:+\"${features// /\",\"}\"}],\"target\":null,\"registry\":null}"
   mark="\",\"pkg\":\"$2\",\"dep_kinds\":["
   for place in "${!used_now[@]}"; do
     if [[ ${used_now[place]} = '{"name":"'*"$mark"* ]]; then
-      check_name "$2" "$key" "${used_now[place]%%"$mark"*}"
+      check_name "$2" "$key" "${used_now[place]%%"$mark"*}" "$library"
       used_now[place]="{\"name\":\"$code$mark{\"kind\":$kind,\"target\":null},${used_now[place]#*"$mark"}"
       return
     fi
@@ -172,12 +172,12 @@ add_line() {
   uses+=",{\"name\":\"$code$mark{\"kind\":$kind,\"target\":null}]}"
 }
 
-# Ends if the manifest has another name for the package of a line. The arguments are its id, its name in the line, and the begin of the document's
-# line with its name in code.
+# Ends if the manifest has another name for the package of a line. The arguments are its id, its name in the line, the begin of the document's line
+# with its name in code, and that of its library.
 check_name() {
   local code=${3#'{"name":"'} own
   own=${own_names[${join_name[$1]} $code]-}
-  if [ -z "$own" ] && [ "$code" = "${code_name[$1]//-/_}" ]; then own=${own_names[${join_name[$1]} -]-}; fi
+  if [ -z "$own" ] && [ "$code" = "$4" ]; then own=${own_names[${join_name[$1]} -]-}; fi
   [ -z "$own" ] || [ "$own" = "$2" ] ||
     fail "\`$own\` of \`${member[manifest]}\` is the package of the line \`$2\`, and Cargo accepts one name for a package: remove it there, or name another member"
 }
