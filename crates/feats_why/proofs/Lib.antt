@@ -1,5 +1,3 @@
-pub mod Between
-pub mod Grouped
 pub mod Loops
 pub mod Members
 pub mod Pushed

@@ -14,17 +14,14 @@ use Rattle.plan_whys.specs.Steps.{SpotText}
 abbrev pub is_same_side : Side → Side → Bool
 is_same_side a b = if is_host a then is_host b else not (is_host b)
 
--- Whether the declaration counts for its package, at `start`: it leads to the side of `at`, whose package is or isn't a procedural macro, and
--- it applies there. A declaration for development counts if tests are built; an optional one is counted as the others are.
-abbrev pub counts_at : SettingsText → Bool → SpotText → SpotText → DeclarationText → Bool
-counts_at s macro start at d =
-    is_same_side (lands s.split d macro start.side) at.side
+-- Whether the declaration leads from its package, at `start`, to the package at `at`, which is or isn't a procedural macro. A declaration
+-- for development counts if tests are built; an optional one is counted as the others are.
+abbrev pub leads_to_spot : SettingsText → Bool → SpotText → SpotText → DeclarationText → Bool
+leads_to_spot s macro start at d =
+    both_lead_to d.leads_to (Some at.number)
+    && is_same_side (lands s.split d macro start.side) at.side
     && (not (is_development d.kind) || s.development)
     && applies_on s.host s.targets start.side d
-
--- Whether the declaration leads from its package, at `start`, to the package at `at`.
-abbrev pub leads_to_spot : SettingsText → Bool → SpotText → SpotText → DeclarationText → Bool
-leads_to_spot s macro start at d = both_lead_to d.leads_to (Some at.number) && counts_at s macro start at d
 
 -- The platform of a declaration that passes the test.
 abbrev pub platform_if : (DeclarationText → Bool) → DeclarationText → Option Text

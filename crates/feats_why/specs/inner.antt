@@ -1,4 +1,3 @@
 -- Definitions that only contracts of private functions use.
 pub mod Labelled
-pub mod Leads
 pub mod Rows

@@ -2,7 +2,6 @@
 #![tactic(auto)]
 
 mod labels;
-mod leads;
 mod objects;
 mod platforms;
 mod reason_objects;
@@ -15,7 +14,6 @@ mod table;
 mod unbuilt;
 
 pub use labels::{spot_label, spot_labels};
-pub use leads::Leads;
 pub use objects::{why_objects, write_steps};
 pub use plan_whys::{ReasonedStep, Spot, WhyReason, WhyStep};
 pub use reason_objects::reasoned_objects;

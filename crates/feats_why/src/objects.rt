@@ -10,7 +10,6 @@ ghost use Rattle.feats_why.specs.Objects as spec;
 ghost use Rattle.feats_why.specs.Settings.{settings_text};
 ghost use Rattle.plan_whys.specs.StepViews.{reason_text, spot_text, why_text};
 
-use crate::leads::Leads;
 use crate::platforms::platforms_of;
 use crate::relations::{Relation, is_command, is_shown, relation_of};
 use crate::settings::WhySettings;
@@ -83,12 +82,12 @@ fn side_word(side: Side) -> &'static str
 /// Writes the members of `spot`.
 pub(crate) fn write_spot(
     writer: &mut Writer,
-    leads: &Leads<'_, '_>,
+    packages: &[Package<'_>],
     spot: Spot<'_>,
 ) -> Result<(), AllocError>
-    ensures { OnOk result (spec.Appends writer.old writer.new (spec.spot_members leads.now (spot_text spot.entry))) }
+    ensures { OnOk result (spec.Appends writer.old writer.new (spec.spot_members (map package_text packages.now) (spot_text spot.entry))) }
 {
-    write_member(writer, "package", id_at(leads.packages(), spot.package))?;
+    write_member(writer, "package", id_at(packages, spot.package))?;
     write_optional(writer, "feature", feature_name(spot.label))?;
     write_optional(writer, "dependency", dependency_name(spot.label))?;
     write_member(writer, "side", side_word(spot.side))
@@ -97,15 +96,15 @@ pub(crate) fn write_spot(
 /// Writes the object of `spot`, or null.
 fn write_spot_or_null(
     writer: &mut Writer,
-    leads: &Leads<'_, '_>,
+    packages: &[Package<'_>],
     spot: Option<Spot<'_>>,
 ) -> Result<(), AllocError>
-    ensures { OnOk result (spec.Appends writer.old writer.new (spec.spot_or_null leads.now (option_map spot_text spot.entry))) }
+    ensures { OnOk result (spec.Appends writer.old writer.new (spec.spot_or_null (map package_text packages.now) (option_map spot_text spot.entry))) }
 {
     match spot {
         Some(spot) => {
             writer.begin_object()?;
-            write_spot(writer, leads, spot)?;
+            write_spot(writer, packages, spot)?;
             writer.end_object()
         }
         None => writer.null(),
@@ -115,14 +114,14 @@ fn write_spot_or_null(
 /// Writes a member whose value is the object of `spot`, or null.
 fn write_spot_member(
     writer: &mut Writer,
-    leads: &Leads<'_, '_>,
+    packages: &[Package<'_>],
     name: &str,
     spot: Option<Spot<'_>>,
 ) -> Result<(), AllocError>
-    ensures { OnOk result (spec.Appends writer.old writer.new (key name.now ∷ spec.spot_or_null leads.now (option_map spot_text spot.entry))) }
+    ensures { OnOk result (spec.Appends writer.old writer.new (key name.now ∷ spec.spot_or_null (map package_text packages.now) (option_map spot_text spot.entry))) }
 {
     writer.key(name)?;
-    write_spot_or_null(writer, leads, spot)
+    write_spot_or_null(writer, packages, spot)
 }
 
 /// Returns the word for `relation`.
@@ -182,14 +181,14 @@ fn write_platforms(writer: &mut Writer, platforms: &[&str]) -> Result<(), AllocE
 pub(crate) fn reason_platforms<'v, P: Platform>(
     alloc: Global,
     settings: &WhySettings<'_, P>,
-    leads: &Leads<'_, 'v>,
+    packages: &[Package<'v>],
     at: Spot<'_>,
     reason: WhyReason<'_>,
 ) -> Result<Vec<&'v str>, AllocError>
-    ensures { IfOk result (λ platforms. texts platforms.items ≡ spec.reason_platforms leads.now (settings_text P.holds settings.now) (spot_text at.entry) (reason_text reason.entry)) }
+    ensures { IfOk result (λ platforms. texts platforms.items ≡ spec.reason_platforms (map package_text packages.now) (settings_text P.holds settings.now) (spot_text at.entry) (reason_text reason.entry)) }
 {
     match reason {
-        WhyReason::From { start, .. } => platforms_of(alloc, settings, leads, start, at),
+        WhyReason::From { start, .. } => platforms_of(alloc, settings, packages, start, at),
         WhyReason::Selected => Ok(Vec::new(alloc)),
     }
 }
@@ -197,31 +196,31 @@ pub(crate) fn reason_platforms<'v, P: Platform>(
 /// Writes the members of `reason`, by which `at` is on for `platforms`.
 pub(crate) fn write_reason(
     writer: &mut Writer,
-    leads: &Leads<'_, '_>,
+    packages: &[Package<'_>],
     platforms: &[&str],
     at: Spot<'_>,
     reason: WhyReason<'_>,
 ) -> Result<(), AllocError>
-    ensures { OnOk result (spec.Appends writer.old writer.new (spec.reason_tokens leads.now (texts platforms.now) (spot_text at.entry) (reason_text reason.entry))) }
+    ensures { OnOk result (spec.Appends writer.old writer.new (spec.reason_tokens (map package_text packages.now) (texts platforms.now) (spot_text at.entry) (reason_text reason.entry))) }
 {
     write_member(writer, "reason", reason_word(relation_of(at, reason)))?;
-    write_spot_member(writer, leads, "from", shown_start(reason))?;
-    write_spot_member(writer, leads, "gate", shown_gate(reason))?;
+    write_spot_member(writer, packages, "from", shown_start(reason))?;
+    write_spot_member(writer, packages, "gate", shown_gate(reason))?;
     write_platforms(writer, platforms)
 }
 
 /// Writes the object of `step`, whose reason is for `platforms`.
 fn write_object(
     writer: &mut Writer,
-    leads: &Leads<'_, '_>,
+    packages: &[Package<'_>],
     platforms: &[&str],
     step: &WhyStep<'_>,
 ) -> Result<(), AllocError>
-    ensures { OnOk result (spec.Appends writer.old writer.new (spec.object_tokens leads.now (texts platforms.now) (why_text step.now))) }
+    ensures { OnOk result (spec.Appends writer.old writer.new (spec.object_tokens (map package_text packages.now) (texts platforms.now) (why_text step.now))) }
 {
     writer.begin_object()?;
-    write_spot(writer, leads, step.at)?;
-    write_reason(writer, leads, platforms, step.at, step.reason)?;
+    write_spot(writer, packages, step.at)?;
+    write_reason(writer, packages, platforms, step.at, step.reason)?;
     writer.end_object()
 }
 
@@ -229,28 +228,28 @@ fn write_object(
 fn write_step<P: Platform>(
     alloc: Global,
     writer: &mut Writer,
-    leads: &Leads<'_, '_>,
+    packages: &[Package<'_>],
     settings: &WhySettings<'_, P>,
     step: &WhyStep<'_>,
 ) -> Result<(), AllocError>
-    ensures { OnOk result (spec.Appends writer.old writer.new (spec.step_object leads.now (settings_text P.holds settings.now) (why_text step.now))) }
+    ensures { OnOk result (spec.Appends writer.old writer.new (spec.step_object (map package_text packages.now) (settings_text P.holds settings.now) (why_text step.now))) }
 {
-    let platforms = reason_platforms(alloc, settings, leads, step.at, step.reason)?;
-    write_object(writer, leads, &platforms, step)
+    let platforms = reason_platforms(alloc, settings, packages, step.at, step.reason)?;
+    write_object(writer, packages, &platforms, step)
 }
 
 /// Writes the object of `step`, if the step is shown.
 fn write_shown<P: Platform>(
     alloc: Global,
     writer: &mut Writer,
-    leads: &Leads<'_, '_>,
+    packages: &[Package<'_>],
     settings: &WhySettings<'_, P>,
     step: &WhyStep<'_>,
 ) -> Result<(), AllocError>
-    ensures { OnOk result (spec.Appends writer.old writer.new (spec.shown_object leads.now (settings_text P.holds settings.now) (why_text step.now))) }
+    ensures { OnOk result (spec.Appends writer.old writer.new (spec.shown_object (map package_text packages.now) (settings_text P.holds settings.now) (why_text step.now))) }
 {
     if is_shown(step) {
-        write_step(alloc, writer, leads, settings, step)
+        write_step(alloc, writer, packages, settings, step)
     } else {
         Ok(())
     }
@@ -260,44 +259,44 @@ fn write_shown<P: Platform>(
 fn write_all<P: Platform>(
     alloc: Global,
     writer: &mut Writer,
-    leads: &Leads<'_, '_>,
+    packages: &[Package<'_>],
     settings: &WhySettings<'_, P>,
     steps: &[WhyStep<'_>],
 ) -> Result<(), AllocError>
-    ensures { OnOk result (spec.Appends writer.old writer.new (spec.step_objects leads.now (settings_text P.holds settings.now) (map why_text steps.now))) }
+    ensures { OnOk result (spec.Appends writer.old writer.new (spec.step_objects (map package_text packages.now) (settings_text P.holds settings.now) (map why_text steps.now))) }
 {
     for step in steps {
-        write_shown(alloc, writer, leads, settings, step)?;
+        write_shown(alloc, writer, packages, settings, step)?;
     }
     Ok(())
 }
 
-/// Writes an object for each of `steps`, which are those of an explanation in the workspace of `leads`, without brackets around them.
-/// Steps at command features aren't shown.
+/// Writes an object for each of `steps`, which are those of an explanation in `workspace`, without brackets around them. Steps at
+/// command features aren't shown.
 pub fn write_steps<P: Platform>(
     alloc: Global,
     writer: &mut Writer,
-    leads: &Leads<'_, '_>,
+    workspace: &Workspace<'_>,
     settings: &WhySettings<'_, P>,
     steps: &[WhyStep<'_>],
 ) -> Result<(), AllocError>
-    ensures { OnOk result (spec.Appends writer.old writer.new (spec.step_objects leads.now (settings_text P.holds settings.now) (map why_text steps.now))) }
+    ensures { OnOk result (spec.Appends writer.old writer.new (spec.step_objects (workspace_text workspace.now).packages (settings_text P.holds settings.now) (map why_text steps.now))) }
 {
-    write_all(alloc, writer, leads, settings, steps)
+    write_all(alloc, writer, workspace.packages(), settings, steps)
 }
 
 /// Appends the object of `step`, and a line feed.
 fn push_object<P: Platform>(
     alloc: Global,
     text: Vec<u8>,
-    leads: &Leads<'_, '_>,
+    packages: &[Package<'_>],
     settings: &WhySettings<'_, P>,
     step: &WhyStep<'_>,
 ) -> Result<Vec<u8>, AllocError>
-    ensures { IfOk result (λ new. new.items ≡ text.items ++ (print (spec.step_object leads.now (settings_text P.holds settings.now) (why_text step.now)) ++ 10 ∷ [])) }
+    ensures { IfOk result (λ new. new.items ≡ text.items ++ (print (spec.step_object (map package_text packages.now) (settings_text P.holds settings.now) (why_text step.now)) ++ 10 ∷ [])) }
 {
     let mut writer = Writer::new(text);
-    write_step(alloc, &mut writer, leads, settings, step)?;
+    write_step(alloc, &mut writer, packages, settings, step)?;
     let mut text = writer.into_inner();
     text.push(b'\n')?;
     Ok(text)
@@ -307,14 +306,14 @@ fn push_object<P: Platform>(
 fn push_shown<P: Platform>(
     alloc: Global,
     text: Vec<u8>,
-    leads: &Leads<'_, '_>,
+    packages: &[Package<'_>],
     settings: &WhySettings<'_, P>,
     step: &WhyStep<'_>,
 ) -> Result<Vec<u8>, AllocError>
-    ensures { IfOk result (λ new. new.items ≡ text.items ++ spec.object_line leads.now (settings_text P.holds settings.now) (why_text step.now)) }
+    ensures { IfOk result (λ new. new.items ≡ text.items ++ spec.object_line (map package_text packages.now) (settings_text P.holds settings.now) (why_text step.now)) }
 {
     if is_shown(step) {
-        push_object(alloc, text, leads, settings, step)
+        push_object(alloc, text, packages, settings, step)
     } else {
         Ok(text)
     }
@@ -323,15 +322,15 @@ fn push_shown<P: Platform>(
 /// Returns a line for each of `steps` that is shown.
 fn object_lines<P: Platform>(
     alloc: Global,
-    leads: &Leads<'_, '_>,
+    packages: &[Package<'_>],
     settings: &WhySettings<'_, P>,
     steps: &[WhyStep<'_>],
 ) -> Result<Vec<u8>, AllocError>
-    ensures { IfOk result (λ text. text.items ≡ spec.why_objects leads.now (settings_text P.holds settings.now) (map why_text steps.now)) }
+    ensures { IfOk result (λ text. text.items ≡ spec.why_objects (map package_text packages.now) (settings_text P.holds settings.now) (map why_text steps.now)) }
 {
     let mut text = Vec::new(alloc);
     for step in steps {
-        text = push_shown(alloc, text, leads, settings, step)?;
+        text = push_shown(alloc, text, packages, settings, step)?;
     }
     Ok(text)
 }
@@ -346,6 +345,5 @@ pub fn why_objects<P: Platform>(
 ) -> Result<Vec<u8>, AllocError>
     ensures { IfOk result (λ text. text.items ≡ spec.why_objects (workspace_text workspace.now).packages (settings_text P.holds settings.now) (map why_text steps.now)) }
 {
-    let leads = Leads::new(alloc, workspace)?;
-    object_lines(alloc, &leads, settings, steps)
+    object_lines(alloc, workspace.packages(), settings, steps)
 }

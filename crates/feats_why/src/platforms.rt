@@ -1,17 +1,16 @@
 //! The platform specs by which a package depends on another one.
-ghost use Rattle.std.specs.Prelude.{◌≡◌, [], IfOk, OnOk, fold, map, option_map};
+ghost use Rattle.std.specs.Prelude.{◌≡◌, [], Some, IfOk, OnOk, fold, map, option_map};
 ghost use Rattle.std.specs.List.{list_any};
 ghost use Rattle.std.specs.Str.{bytes_eq};
-ghost use Rattle.cargo_workspaces.specs.Views.{declaration_text, texts as texts_of};
+ghost use Rattle.cargo_workspaces.specs.Views.{declaration_text, package_text, texts as texts_of};
+ghost use Rattle.cargo_workspaces.specs.Workspaces.{both_lead_to};
 ghost use Rattle.feats_why.specs.Platforms as spec;
 ghost use Rattle.feats_why.specs.Settings.{settings_text};
-ghost use Rattle.feats_why.specs.inner.Leads.{declared};
 ghost use Rattle.plan_whys.specs.StepViews.{spot_text};
 
-use crate::leads::{Lead, Leads};
 use crate::relations::{is_by_declaration, relation_from};
 use crate::settings::WhySettings;
-use cargo_workspaces::{Declaration, Kind};
+use cargo_workspaces::{Declaration, Kind, Package};
 use plan_rows::rules::{applies_on, is_macro_at, lands};
 use plan_rows::{Platform, Side};
 use plan_whys::Spot;
@@ -28,6 +27,16 @@ fn is_same_side(a: Side, b: Side) -> bool
     }
 }
 
+/// Returns whether `declaration` leads to package `package`.
+fn leads_to(declaration: &Declaration<'_>, package: usize) -> bool
+    ensures { result ≡ both_lead_to declaration.now.leads_to (Some «package») }
+{
+    match declaration.leads_to {
+        Some(to) => to == package,
+        None => false,
+    }
+}
+
 /// The spots between which declarations lead.
 #[derive(Clone, Copy)]
 struct Between<'w> {
@@ -37,32 +46,34 @@ struct Between<'w> {
     is_macro: bool,
 }
 
-/// Returns whether `declaration`, which leads to the package at the end, counts for its package at the start.
-fn counts<P: Platform>(
+/// Returns whether `declaration` leads from its package, at the start, to the package at the end.
+fn leads<P: Platform>(
     settings: &WhySettings<'_, P>,
     between: Between<'_>,
     declaration: &Declaration<'_>,
 ) -> bool
-    ensures { result ≡ spec.counts_at (settings_text P.holds settings.now) between.entry.is_macro (spot_text between.entry.start) (spot_text between.entry.at) (declaration_text declaration.now) }
+    ensures { result ≡ spec.leads_to_spot (settings_text P.holds settings.now) between.entry.is_macro (spot_text between.entry.start) (spot_text between.entry.at) (declaration_text declaration.now) }
 {
     let side = between.start.side;
-    is_same_side(
-        lands(settings.split, declaration, between.is_macro, side),
-        between.at.side,
-    ) && (declaration.kind != Kind::Development || settings.development)
+    leads_to(declaration, between.at.package)
+        && is_same_side(
+            lands(settings.split, declaration, between.is_macro, side),
+            between.at.side,
+        )
+        && (declaration.kind != Kind::Development || settings.development)
         && applies_on(settings.host, settings.targets, side, declaration)
 }
 
-/// Returns whether one of `declarations` counts and is for every platform.
+/// Returns whether one of `declarations` leads there and is for every platform.
 fn is_anywhere<P: Platform>(
     settings: &WhySettings<'_, P>,
     between: Between<'_>,
-    declarations: &[Lead<'_, '_>],
+    declarations: &[Declaration<'_>],
 ) -> bool
-    ensures { result ≡ list_any (spec.is_anywhere (spec.counts_at (settings_text P.holds settings.now) between.entry.is_macro (spot_text between.entry.start) (spot_text between.entry.at))) (declared declarations.now) }
+    ensures { result ≡ list_any (spec.is_anywhere (spec.leads_to_spot (settings_text P.holds settings.now) between.entry.is_macro (spot_text between.entry.start) (spot_text between.entry.at))) (map declaration_text declarations.now) }
 {
-    for lead in declarations {
-        if counts(settings, between, lead.declaration) && lead.declaration.platform.is_none() {
+    for declaration in declarations {
+        if leads(settings, between, declaration) && declaration.platform.is_none() {
             return true;
         }
     }
@@ -92,48 +103,45 @@ fn note<'v>(texts: &mut Vec<&'v str>, text: Option<&'v str>) -> Result<(), Alloc
     Ok(())
 }
 
-/// Returns the platform of `declaration`, if it counts.
+/// Returns the platform of `declaration`, if it leads there.
 fn platform_if<'v, P: Platform>(
     settings: &WhySettings<'_, P>,
     between: Between<'_>,
     declaration: &Declaration<'v>,
 ) -> Option<&'v str>
-    ensures { option_map (λ t. t.now) result ≡ spec.platform_if (spec.counts_at (settings_text P.holds settings.now) between.entry.is_macro (spot_text between.entry.start) (spot_text between.entry.at)) (declaration_text declaration.now) }
+    ensures { option_map (λ t. t.now) result ≡ spec.platform_if (spec.leads_to_spot (settings_text P.holds settings.now) between.entry.is_macro (spot_text between.entry.start) (spot_text between.entry.at)) (declaration_text declaration.now) }
 {
-    if counts(settings, between, declaration) {
+    if leads(settings, between, declaration) {
         declaration.platform
     } else {
         None
     }
 }
 
-/// Returns the platforms of those of `declarations` that count, each once.
+/// Returns the platforms of those of `declarations` that lead there, each once.
 fn platforms_in<'v, P: Platform>(
     alloc: Global,
     settings: &WhySettings<'_, P>,
     between: Between<'_>,
-    declarations: &[Lead<'_, 'v>],
+    declarations: &[Declaration<'v>],
 ) -> Result<Vec<&'v str>, AllocError>
-    ensures { IfOk result (λ platforms. texts_of platforms.items ≡ fold spec.with_text [] (map (spec.platform_if (spec.counts_at (settings_text P.holds settings.now) between.entry.is_macro (spot_text between.entry.start) (spot_text between.entry.at))) (declared declarations.now))) }
+    ensures { IfOk result (λ platforms. texts_of platforms.items ≡ fold spec.with_text [] (map (spec.platform_if (spec.leads_to_spot (settings_text P.holds settings.now) between.entry.is_macro (spot_text between.entry.start) (spot_text between.entry.at))) (map declaration_text declarations.now))) }
 {
     let mut platforms = Vec::new(alloc);
-    for lead in declarations {
-        note(
-            &mut platforms,
-            platform_if(settings, between, lead.declaration),
-        )?;
+    for declaration in declarations {
+        note(&mut platforms, platform_if(settings, between, declaration))?;
     }
     Ok(platforms)
 }
 
-/// Returns the platforms of those of `declarations` that count: none, if one of them is for every platform.
+/// Returns the platforms of those of `declarations` that lead there: none, if one of them is for every platform.
 fn platforms_by<'v, P: Platform>(
     alloc: Global,
     settings: &WhySettings<'_, P>,
     between: Between<'_>,
-    declarations: &[Lead<'_, 'v>],
+    declarations: &[Declaration<'v>],
 ) -> Result<Vec<&'v str>, AllocError>
-    ensures { IfOk result (λ platforms. texts_of platforms.items ≡ spec.platforms_by (spec.counts_at (settings_text P.holds settings.now) between.entry.is_macro (spot_text between.entry.start) (spot_text between.entry.at)) (declared declarations.now)) }
+    ensures { IfOk result (λ platforms. texts_of platforms.items ≡ spec.platforms_by (spec.leads_to_spot (settings_text P.holds settings.now) between.entry.is_macro (spot_text between.entry.start) (spot_text between.entry.at)) (map declaration_text declarations.now)) }
 {
     if is_anywhere(settings, between, declarations) {
         return Ok(Vec::new(alloc));
@@ -145,19 +153,21 @@ fn platforms_by<'v, P: Platform>(
 fn platforms_between<'v, P: Platform>(
     alloc: Global,
     settings: &WhySettings<'_, P>,
-    leads: &Leads<'_, 'v>,
+    packages: &[Package<'v>],
     start: Spot<'_>,
     at: Spot<'_>,
 ) -> Result<Vec<&'v str>, AllocError>
-    ensures { IfOk result (λ platforms. texts_of platforms.items ≡ spec.platforms_between (settings_text P.holds settings.now) leads.now (spot_text start.entry) (spot_text at.entry)) }
+    ensures { IfOk result (λ platforms. texts_of platforms.items ≡ spec.platforms_between (settings_text P.holds settings.now) (map package_text packages.now) (spot_text start.entry) (spot_text at.entry)) }
 {
     let between = Between {
         start,
         at,
-        is_macro: is_macro_at(leads.packages(), at.package),
+        is_macro: is_macro_at(packages, at.package),
     };
-    let declarations = leads.declarations(start.package, at.package);
-    platforms_by(alloc, settings, between, declarations)
+    match packages.get(start.package) {
+        Some(package) => platforms_by(alloc, settings, between, &package.declarations),
+        None => Ok(Vec::new(alloc)),
+    }
 }
 
 /// Returns the platforms for which the package of `start` depends on the package of `at`: none, if the sides aren't told apart or
@@ -165,14 +175,14 @@ fn platforms_between<'v, P: Platform>(
 pub(crate) fn platforms_of<'v, P: Platform>(
     alloc: Global,
     settings: &WhySettings<'_, P>,
-    leads: &Leads<'_, 'v>,
+    packages: &[Package<'v>],
     start: Spot<'_>,
     at: Spot<'_>,
 ) -> Result<Vec<&'v str>, AllocError>
-    ensures { IfOk result (λ platforms. texts_of platforms.items ≡ spec.shown_platforms (settings_text P.holds settings.now) leads.now (spot_text start.entry) (spot_text at.entry)) }
+    ensures { IfOk result (λ platforms. texts_of platforms.items ≡ spec.shown_platforms (settings_text P.holds settings.now) (map package_text packages.now) (spot_text start.entry) (spot_text at.entry)) }
 {
     if settings.split && is_by_declaration(relation_from(start, at)) {
-        platforms_between(alloc, settings, leads, start, at)
+        platforms_between(alloc, settings, packages, start, at)
     } else {
         Ok(Vec::new(alloc))
     }

@@ -1,5 +1,6 @@
 //! An explanation with every direct reason, as JSON objects.
 ghost use Rattle.std.specs.Prelude.{◌≡◌, ◌++◌, ◌∷◌, [], IfOk, OnOk, flat_map, map};
+ghost use Rattle.cargo_workspaces.specs.Views.{package_text};
 ghost use Rattle.cargo_workspaces.specs.WorkspaceView.{workspace_text};
 ghost use Rattle.json.specs.Print.{print};
 ghost use Rattle.feats_why.specs.Objects.{Appends};
@@ -7,11 +8,10 @@ ghost use Rattle.feats_why.specs.ReasonedObjects as spec;
 ghost use Rattle.feats_why.specs.Settings.{settings_text};
 ghost use Rattle.plan_whys.specs.StepViews.{reason_text, reasoned_text, spot_text, why_text};
 
-use crate::leads::Leads;
 use crate::objects::{reason_platforms, write_reason, write_spot};
 use crate::relations::is_shown;
 use crate::settings::WhySettings;
-use cargo_workspaces::Workspace;
+use cargo_workspaces::{Package, Workspace};
 use json::Writer;
 use plan_rows::Platform;
 use plan_whys::{ReasonedStep, Spot, WhyReason, WhyStep};
@@ -21,30 +21,30 @@ use std::alloc::{AllocError, Global};
 fn write_reason_members<P: Platform>(
     alloc: Global,
     writer: &mut Writer,
-    leads: &Leads<'_, '_>,
+    packages: &[Package<'_>],
     settings: &WhySettings<'_, P>,
     at: Spot<'_>,
     reason: WhyReason<'_>,
 ) -> Result<(), AllocError>
-    ensures { OnOk result (Appends writer.old writer.new (spec.reason_members leads.now (settings_text P.holds settings.now) (spot_text at.entry) (reason_text reason.entry))) }
+    ensures { OnOk result (Appends writer.old writer.new (spec.reason_members (map package_text packages.now) (settings_text P.holds settings.now) (spot_text at.entry) (reason_text reason.entry))) }
 {
-    let platforms = reason_platforms(alloc, settings, leads, at, reason)?;
-    write_reason(writer, leads, &platforms, at, reason)
+    let platforms = reason_platforms(alloc, settings, packages, at, reason)?;
+    write_reason(writer, packages, &platforms, at, reason)
 }
 
 /// Writes the object of `reason`, by which `at` is on.
 fn write_reason_object<P: Platform>(
     alloc: Global,
     writer: &mut Writer,
-    leads: &Leads<'_, '_>,
+    packages: &[Package<'_>],
     settings: &WhySettings<'_, P>,
     at: Spot<'_>,
     reason: WhyReason<'_>,
 ) -> Result<(), AllocError>
-    ensures { OnOk result (Appends writer.old writer.new (spec.reason_object leads.now (settings_text P.holds settings.now) (spot_text at.entry) (reason_text reason.entry))) }
+    ensures { OnOk result (Appends writer.old writer.new (spec.reason_object (map package_text packages.now) (settings_text P.holds settings.now) (spot_text at.entry) (reason_text reason.entry))) }
 {
     writer.begin_object()?;
-    write_reason_members(alloc, writer, leads, settings, at, reason)?;
+    write_reason_members(alloc, writer, packages, settings, at, reason)?;
     writer.end_object()
 }
 
@@ -52,15 +52,15 @@ fn write_reason_object<P: Platform>(
 fn write_reason_objects<P: Platform>(
     alloc: Global,
     writer: &mut Writer,
-    leads: &Leads<'_, '_>,
+    packages: &[Package<'_>],
     settings: &WhySettings<'_, P>,
     at: Spot<'_>,
     reasons: &[WhyReason<'_>],
 ) -> Result<(), AllocError>
-    ensures { OnOk result (Appends writer.old writer.new (flat_map (spec.reason_object leads.now (settings_text P.holds settings.now) (spot_text at.entry)) (map reason_text reasons.now))) }
+    ensures { OnOk result (Appends writer.old writer.new (flat_map (spec.reason_object (map package_text packages.now) (settings_text P.holds settings.now) (spot_text at.entry)) (map reason_text reasons.now))) }
 {
     for reason in reasons {
-        write_reason_object(alloc, writer, leads, settings, at, *reason)?;
+        write_reason_object(alloc, writer, packages, settings, at, *reason)?;
     }
     Ok(())
 }
@@ -69,16 +69,16 @@ fn write_reason_objects<P: Platform>(
 fn write_reasons<P: Platform>(
     alloc: Global,
     writer: &mut Writer,
-    leads: &Leads<'_, '_>,
+    packages: &[Package<'_>],
     settings: &WhySettings<'_, P>,
     at: Spot<'_>,
     reasons: &[WhyReason<'_>],
 ) -> Result<(), AllocError>
-    ensures { OnOk result (Appends writer.old writer.new (spec.reasons_member leads.now (settings_text P.holds settings.now) (spot_text at.entry) (map reason_text reasons.now))) }
+    ensures { OnOk result (Appends writer.old writer.new (spec.reasons_member (map package_text packages.now) (settings_text P.holds settings.now) (spot_text at.entry) (map reason_text reasons.now))) }
 {
     writer.key("reasons")?;
     writer.begin_array()?;
-    write_reason_objects(alloc, writer, leads, settings, at, reasons)?;
+    write_reason_objects(alloc, writer, packages, settings, at, reasons)?;
     writer.end_array()
 }
 
@@ -86,30 +86,30 @@ fn write_reasons<P: Platform>(
 fn write_step_members<P: Platform>(
     alloc: Global,
     writer: &mut Writer,
-    leads: &Leads<'_, '_>,
+    packages: &[Package<'_>],
     settings: &WhySettings<'_, P>,
     step: &WhyStep<'_>,
 ) -> Result<(), AllocError>
-    ensures { OnOk result (Appends writer.old writer.new (spec.step_members leads.now (settings_text P.holds settings.now) (why_text step.now))) }
+    ensures { OnOk result (Appends writer.old writer.new (spec.step_members (map package_text packages.now) (settings_text P.holds settings.now) (why_text step.now))) }
 {
-    write_spot(writer, leads, step.at)?;
-    write_reason_members(alloc, writer, leads, settings, step.at, step.reason)
+    write_spot(writer, packages, step.at)?;
+    write_reason_members(alloc, writer, packages, settings, step.at, step.reason)
 }
 
 /// Writes the object of `reasoned`.
 fn write_reasoned<P: Platform>(
     alloc: Global,
     writer: &mut Writer,
-    leads: &Leads<'_, '_>,
+    packages: &[Package<'_>],
     settings: &WhySettings<'_, P>,
     reasoned: &ReasonedStep<'_>,
 ) -> Result<(), AllocError>
-    ensures { OnOk result (Appends writer.old writer.new (spec.reasoned_object leads.now (settings_text P.holds settings.now) (reasoned_text reasoned.now))) }
+    ensures { OnOk result (Appends writer.old writer.new (spec.reasoned_object (map package_text packages.now) (settings_text P.holds settings.now) (reasoned_text reasoned.now))) }
 {
     let at = reasoned.step.at;
     writer.begin_object()?;
-    write_step_members(alloc, writer, leads, settings, &reasoned.step)?;
-    write_reasons(alloc, writer, leads, settings, at, &reasoned.reasons)?;
+    write_step_members(alloc, writer, packages, settings, &reasoned.step)?;
+    write_reasons(alloc, writer, packages, settings, at, &reasoned.reasons)?;
     writer.end_object()
 }
 
@@ -117,14 +117,14 @@ fn write_reasoned<P: Platform>(
 fn push_reasoned<P: Platform>(
     alloc: Global,
     text: Vec<u8>,
-    leads: &Leads<'_, '_>,
+    packages: &[Package<'_>],
     settings: &WhySettings<'_, P>,
     reasoned: &ReasonedStep<'_>,
 ) -> Result<Vec<u8>, AllocError>
-    ensures { IfOk result (λ new. new.items ≡ text.items ++ (print (spec.reasoned_object leads.now (settings_text P.holds settings.now) (reasoned_text reasoned.now)) ++ 10 ∷ [])) }
+    ensures { IfOk result (λ new. new.items ≡ text.items ++ (print (spec.reasoned_object (map package_text packages.now) (settings_text P.holds settings.now) (reasoned_text reasoned.now)) ++ 10 ∷ [])) }
 {
     let mut writer = Writer::new(text);
-    write_reasoned(alloc, &mut writer, leads, settings, reasoned)?;
+    write_reasoned(alloc, &mut writer, packages, settings, reasoned)?;
     let mut text = writer.into_inner();
     text.push(b'\n')?;
     Ok(text)
@@ -134,14 +134,14 @@ fn push_reasoned<P: Platform>(
 fn push_shown<P: Platform>(
     alloc: Global,
     text: Vec<u8>,
-    leads: &Leads<'_, '_>,
+    packages: &[Package<'_>],
     settings: &WhySettings<'_, P>,
     reasoned: &ReasonedStep<'_>,
 ) -> Result<Vec<u8>, AllocError>
-    ensures { IfOk result (λ new. new.items ≡ text.items ++ spec.reasoned_line leads.now (settings_text P.holds settings.now) (reasoned_text reasoned.now)) }
+    ensures { IfOk result (λ new. new.items ≡ text.items ++ spec.reasoned_line (map package_text packages.now) (settings_text P.holds settings.now) (reasoned_text reasoned.now)) }
 {
     if is_shown(&reasoned.step) {
-        push_reasoned(alloc, text, leads, settings, reasoned)
+        push_reasoned(alloc, text, packages, settings, reasoned)
     } else {
         Ok(text)
     }
@@ -150,15 +150,15 @@ fn push_shown<P: Platform>(
 /// Returns a line for each of `steps` that is shown.
 fn reasoned_lines<P: Platform>(
     alloc: Global,
-    leads: &Leads<'_, '_>,
+    packages: &[Package<'_>],
     settings: &WhySettings<'_, P>,
     steps: &[ReasonedStep<'_>],
 ) -> Result<Vec<u8>, AllocError>
-    ensures { IfOk result (λ text. text.items ≡ spec.reasoned_objects leads.now (settings_text P.holds settings.now) (map reasoned_text steps.now)) }
+    ensures { IfOk result (λ text. text.items ≡ spec.reasoned_objects (map package_text packages.now) (settings_text P.holds settings.now) (map reasoned_text steps.now)) }
 {
     let mut text = Vec::new(alloc);
     for step in steps {
-        text = push_shown(alloc, text, leads, settings, step)?;
+        text = push_shown(alloc, text, packages, settings, step)?;
     }
     Ok(text)
 }
@@ -173,6 +173,5 @@ pub fn reasoned_objects<P: Platform>(
 ) -> Result<Vec<u8>, AllocError>
     ensures { IfOk result (λ text. text.items ≡ spec.reasoned_objects (workspace_text workspace.now).packages (settings_text P.holds settings.now) (map reasoned_text steps.now)) }
 {
-    let leads = Leads::new(alloc, workspace)?;
-    reasoned_lines(alloc, &leads, settings, steps)
+    reasoned_lines(alloc, workspace.packages(), settings, steps)
 }

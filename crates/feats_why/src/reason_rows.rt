@@ -9,7 +9,6 @@ ghost use Rattle.feats_why.specs.inner.Labelled.{AreLabels, packages_of};
 ghost use Rattle.feats_why.specs.inner.Rows.{row_text};
 
 use crate::labels::{Labels, labels_of};
-use crate::leads::Leads;
 use crate::reasons::reason_words;
 use crate::relations::is_shown;
 use crate::rows::{Row, row_of};
@@ -52,18 +51,16 @@ fn push_reasons<P: Platform>(
     alloc: Global,
     rows: &mut Vec<Row>,
     labels: &Labels<'_, '_>,
-    leads: &Leads<'_, '_>,
     settings: &WhySettings<'_, P>,
     at: Spot<'_>,
     reasons: &[WhyReason<'_>],
 ) -> Result<(), AllocError>
     requires labels { AreLabels labels.now }
     requires sides { labels.now.sides ≡ settings.now.split }
-    requires leads { leads.now ≡ packages_of labels.now }
     ensures { OnOk result (map row_text rows.new.items ≡ fold spec.with_words (map row_text rows.old.items) (map (words_of (packages_of labels.now) (settings_text P.holds settings.now) (spot_text at.entry)) (map reason_text reasons.now))) }
 {
     for reason in reasons {
-        let words = reason_words(alloc, labels, leads, settings, at, *reason)?;
+        let words = reason_words(alloc, labels, settings, at, *reason)?;
         note_words(alloc, rows, words)?;
     }
     Ok(())
@@ -73,22 +70,19 @@ fn push_reasons<P: Platform>(
 fn rows_with_reasons<P: Platform>(
     alloc: Global,
     labels: &Labels<'_, '_>,
-    leads: &Leads<'_, '_>,
     settings: &WhySettings<'_, P>,
     reasoned: &ReasonedStep<'_>,
 ) -> Result<Vec<Row>, AllocError>
     requires labels { AreLabels labels.now }
     requires sides { labels.now.sides ≡ settings.now.split }
-    requires leads { leads.now ≡ packages_of labels.now }
     ensures { IfOk result (λ rows. map row_text rows.items ≡ spec.rows_with_reasons (packages_of labels.now) (settings_text P.holds settings.now) (reasoned_text reasoned.now)) }
 {
     let mut rows = Vec::new(alloc);
-    rows.push(row_of(alloc, labels, leads, settings, &reasoned.step)?)?;
+    rows.push(row_of(alloc, labels, settings, &reasoned.step)?)?;
     push_reasons(
         alloc,
         &mut rows,
         labels,
-        leads,
         settings,
         reasoned.step.at,
         &reasoned.reasons,
@@ -100,17 +94,15 @@ fn rows_with_reasons<P: Platform>(
 fn shown_rows<P: Platform>(
     alloc: Global,
     labels: &Labels<'_, '_>,
-    leads: &Leads<'_, '_>,
     settings: &WhySettings<'_, P>,
     reasoned: &ReasonedStep<'_>,
 ) -> Result<Vec<Row>, AllocError>
     requires labels { AreLabels labels.now }
     requires sides { labels.now.sides ≡ settings.now.split }
-    requires leads { leads.now ≡ packages_of labels.now }
     ensures { IfOk result (λ rows. map row_text rows.items ≡ spec.shown_rows (packages_of labels.now) (settings_text P.holds settings.now) (reasoned_text reasoned.now)) }
 {
     if is_shown(&reasoned.step) {
-        rows_with_reasons(alloc, labels, leads, settings, reasoned)
+        rows_with_reasons(alloc, labels, settings, reasoned)
     } else {
         Ok(Vec::new(alloc))
     }
@@ -120,18 +112,16 @@ fn shown_rows<P: Platform>(
 fn all_rows<P: Platform>(
     alloc: Global,
     labels: &Labels<'_, '_>,
-    leads: &Leads<'_, '_>,
     settings: &WhySettings<'_, P>,
     steps: &[ReasonedStep<'_>],
 ) -> Result<Vec<Row>, AllocError>
     requires labels { AreLabels labels.now }
     requires sides { labels.now.sides ≡ settings.now.split }
-    requires leads { leads.now ≡ packages_of labels.now }
     ensures { IfOk result (λ rows. map row_text rows.items ≡ flat_map (spec.shown_rows (packages_of labels.now) (settings_text P.holds settings.now)) (map reasoned_text steps.now)) }
 {
     let mut rows = Vec::new(alloc);
     for step in steps {
-        let mut more = shown_rows(alloc, labels, leads, settings, step)?;
+        let mut more = shown_rows(alloc, labels, settings, step)?;
         rows.append(&mut more)?;
     }
     Ok(rows)
@@ -149,7 +139,6 @@ pub fn reasoned_lines<P: Platform>(
 {
     let versions = names_of(alloc, workspace.packages())?;
     let labels = labels_of(alloc, workspace.packages(), &versions, settings.split)?;
-    let leads = Leads::new(alloc, workspace)?;
-    let rows = all_rows(alloc, &labels, &leads, settings, steps)?;
+    let rows = all_rows(alloc, &labels, settings, steps)?;
     table_of(alloc, &rows)
 }

@@ -8,7 +8,6 @@ ghost use Rattle.plan_whys.specs.StepViews.{reason_text, spot_text};
 ghost use Rattle.feats_why.specs.inner.Labelled.{AreLabels, packages_of};
 
 use crate::labels::{Labels, push_spot};
-use crate::leads::Leads;
 use crate::platforms::platforms_of;
 use crate::relations::{Relation, is_named, relation_from};
 use crate::settings::WhySettings;
@@ -159,21 +158,19 @@ fn push_reason<P: Platform>(
     alloc: Global,
     text: &mut String,
     labels: &Labels<'_, '_>,
-    leads: &Leads<'_, '_>,
     settings: &WhySettings<'_, P>,
     at: Spot<'_>,
     reason: WhyReason<'_>,
 ) -> Result<(), AllocError>
     requires labels { AreLabels labels.now }
     requires sides { labels.now.sides ≡ settings.now.split }
-    requires leads { leads.now ≡ packages_of labels.now }
     ensures { OnOk result (string_bytes text.new ≡ string_bytes text.old ++ spec.reason_words (packages_of labels.now) (settings_text P.holds settings.now) (spot_text at.entry) (reason_text reason.entry)) }
 {
     match reason {
         WhyReason::Selected => text.push_str("selected"),
         WhyReason::From { start, gate } => {
             push_relation(alloc, text, labels, start, at)?;
-            let platforms = platforms_of(alloc, settings, leads, start, at)?;
+            let platforms = platforms_of(alloc, settings, labels.packages, start, at)?;
             push_platforms(text, &platforms)?;
             push_gate(alloc, text, labels, gate)
         }
@@ -184,17 +181,15 @@ fn push_reason<P: Platform>(
 pub(crate) fn reason_words<P: Platform>(
     alloc: Global,
     labels: &Labels<'_, '_>,
-    leads: &Leads<'_, '_>,
     settings: &WhySettings<'_, P>,
     at: Spot<'_>,
     reason: WhyReason<'_>,
 ) -> Result<String, AllocError>
     requires labels { AreLabels labels.now }
     requires sides { labels.now.sides ≡ settings.now.split }
-    requires leads { leads.now ≡ packages_of labels.now }
     ensures { IfOk result (λ text. string_bytes text ≡ spec.reason_words (packages_of labels.now) (settings_text P.holds settings.now) (spot_text at.entry) (reason_text reason.entry)) }
 {
     let mut text = String::new(alloc);
-    push_reason(alloc, &mut text, labels, leads, settings, at, reason)?;
+    push_reason(alloc, &mut text, labels, settings, at, reason)?;
     Ok(text)
 }

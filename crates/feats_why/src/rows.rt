@@ -8,7 +8,6 @@ ghost use Rattle.feats_why.specs.inner.Labelled.{AreLabels, packages_of};
 ghost use Rattle.feats_why.specs.inner.Rows.{row_text};
 
 use crate::labels::{Labels, label_text};
-use crate::leads::Leads;
 use crate::reasons::reason_words;
 use crate::relations::is_shown;
 use crate::settings::WhySettings;
@@ -27,18 +26,16 @@ pub(crate) struct Row {
 pub(crate) fn row_of<P: Platform>(
     alloc: Global,
     labels: &Labels<'_, '_>,
-    leads: &Leads<'_, '_>,
     settings: &WhySettings<'_, P>,
     step: &WhyStep<'_>,
 ) -> Result<Row, AllocError>
     requires labels { AreLabels labels.now }
     requires sides { labels.now.sides ≡ settings.now.split }
-    requires leads { leads.now ≡ packages_of labels.now }
     ensures { IfOk result (λ row. row_text row ≡ spec.row_of (packages_of labels.now) (settings_text P.holds settings.now) (why_text step.now)) }
 {
     Ok(Row {
         label: label_text(alloc, labels, step.at)?,
-        reason: reason_words(alloc, labels, leads, settings, step.at, step.reason)?,
+        reason: reason_words(alloc, labels, settings, step.at, step.reason)?,
     })
 }
 
@@ -46,19 +43,17 @@ pub(crate) fn row_of<P: Platform>(
 pub(crate) fn rows_of<P: Platform>(
     alloc: Global,
     labels: &Labels<'_, '_>,
-    leads: &Leads<'_, '_>,
     settings: &WhySettings<'_, P>,
     steps: &[WhyStep<'_>],
 ) -> Result<Vec<Row>, AllocError>
     requires labels { AreLabels labels.now }
     requires sides { labels.now.sides ≡ settings.now.split }
-    requires leads { leads.now ≡ packages_of labels.now }
     ensures { IfOk result (λ rows. map row_text rows.items ≡ map (spec.row_of (packages_of labels.now) (settings_text P.holds settings.now)) (filter relation.is_shown (map why_text steps.now))) }
 {
     let mut rows = Vec::with_capacity(alloc, steps.len())?;
     for step in steps {
         if is_shown(step) {
-            rows.push(row_of(alloc, labels, leads, settings, step)?)?;
+            rows.push(row_of(alloc, labels, settings, step)?)?;
         }
     }
     Ok(rows)

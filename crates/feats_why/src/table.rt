@@ -10,7 +10,6 @@ ghost use Rattle.feats_why.specs.inner.Labelled.{AreLabels, packages_of};
 ghost use Rattle.feats_why.specs.inner.Rows.{row_text};
 
 use crate::labels::{Labels, labels_of};
-use crate::leads::Leads;
 use crate::rows::{Row, rows_of};
 use crate::settings::WhySettings;
 use cargo_workspaces::Workspace;
@@ -103,16 +102,14 @@ pub(crate) fn table_of(alloc: Global, rows: &[Row]) -> Result<String, AllocError
 fn lines_by<P: Platform>(
     alloc: Global,
     labels: &Labels<'_, '_>,
-    leads: &Leads<'_, '_>,
     settings: &WhySettings<'_, P>,
     steps: &[WhyStep<'_>],
 ) -> Result<String, AllocError>
     requires labels { AreLabels labels.now }
     requires sides { labels.now.sides ≡ settings.now.split }
-    requires leads { leads.now ≡ packages_of labels.now }
     ensures { IfOk result (λ text. string_bytes text ≡ spec.why_lines (packages_of labels.now) (settings_text P.holds settings.now) (map why_text steps.now)) }
 {
-    let rows = rows_of(alloc, labels, leads, settings, steps)?;
+    let rows = rows_of(alloc, labels, settings, steps)?;
     table_of(alloc, &rows)
 }
 
@@ -120,18 +117,16 @@ fn lines_by<P: Platform>(
 fn each_by<P: Platform>(
     alloc: Global,
     labels: &Labels<'_, '_>,
-    leads: &Leads<'_, '_>,
     settings: &WhySettings<'_, P>,
     lists: &[&[WhyStep<'_>]],
 ) -> Result<Vec<String>, AllocError>
     requires labels { AreLabels labels.now }
     requires sides { labels.now.sides ≡ settings.now.split }
-    requires leads { leads.now ≡ packages_of labels.now }
     ensures { IfOk result (λ texts. map string_bytes texts.items ≡ map (spec.why_lines (packages_of labels.now) (settings_text P.holds settings.now)) (map steps_text lists.now)) }
 {
     let mut texts = Vec::with_capacity(alloc, lists.len())?;
     for steps in lists {
-        texts.push(lines_by(alloc, labels, leads, settings, *steps)?)?;
+        texts.push(lines_by(alloc, labels, settings, *steps)?)?;
     }
     Ok(texts)
 }
@@ -149,8 +144,7 @@ pub fn why_lines<P: Platform>(
 {
     let versions = names_of(alloc, workspace.packages())?;
     let labels = labels_of(alloc, workspace.packages(), &versions, settings.split)?;
-    let leads = Leads::new(alloc, workspace)?;
-    lines_by(alloc, &labels, &leads, settings, steps)
+    lines_by(alloc, &labels, settings, steps)
 }
 
 /// Returns the lines of each of `lists`, as `why_lines` does.
@@ -164,6 +158,5 @@ pub fn each_why_lines<P: Platform>(
 {
     let versions = names_of(alloc, workspace.packages())?;
     let labels = labels_of(alloc, workspace.packages(), &versions, settings.split)?;
-    let leads = Leads::new(alloc, workspace)?;
-    each_by(alloc, &labels, &leads, settings, lists)
+    each_by(alloc, &labels, settings, lists)
 }

@@ -20,7 +20,7 @@ use crate::typed_words::{TypedWords, typed_text};
 use cargo_plans::PlanWords;
 use cargo_workspaces::Workspace;
 use feats_lines::parts::{begin_line, end_line, write_flag, write_member, write_optional};
-use feats_why::{Leads, settings_of, write_steps};
+use feats_why::{settings_of, write_steps};
 use json::Writer;
 use plan_names::wider::widenings::Widening;
 use plan_rows::platforms::HeldSpecs;
@@ -37,8 +37,7 @@ fn write_objects(
 ) -> Result<(), AllocError>
     ensures { OnOk result (Appends writer.old writer.new (step_objects (workspace_text workspace.now).packages (settings_by (words_text holds_on words.now)) (map why_text steps.now))) }
 {
-    let leads = Leads::new(alloc, workspace)?;
-    write_steps(alloc, writer, &leads, &settings_of(words), steps)
+    write_steps(alloc, writer, workspace, &settings_of(words), steps)
 }
 
 /// Writes that a part is on, with the steps that explain why.

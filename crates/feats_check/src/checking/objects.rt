@@ -21,7 +21,7 @@ use cargo_workspaces::Workspace;
 use feats_lines::parts::{begin_line, end_line};
 use feats_policies::Rule;
 use feats_policies::checks::Verdict;
-use feats_why::{Leads, settings_of, write_steps};
+use feats_why::{settings_of, write_steps};
 use json::Writer;
 use plan_rows::platforms::HeldSpecs;
 use plan_whys::WhyStep;
@@ -31,27 +31,27 @@ use std::alloc::{AllocError, Global};
 fn write_objects(
     alloc: Global,
     writer: &mut Writer,
-    leads: &Leads<'_, '_>,
+    workspace: &Workspace<'_>,
     words: &PlanWords<'_, '_, HeldSpecs<'_>>,
     steps: &[WhyStep<'_>],
 ) -> Result<(), AllocError>
-    ensures { OnOk result (Appends writer.old writer.new (spec.steps_tokens leads.now (words_text holds_on words.now) (map why_text steps.now))) }
+    ensures { OnOk result (Appends writer.old writer.new (spec.steps_tokens (workspace_text workspace.now).packages (words_text holds_on words.now) (map why_text steps.now))) }
 {
-    write_steps(alloc, writer, leads, &settings_of(words), steps)
+    write_steps(alloc, writer, workspace, &settings_of(words), steps)
 }
 
 /// Writes the array of the objects of `steps`.
 fn write_array(
     alloc: Global,
     writer: &mut Writer,
-    leads: &Leads<'_, '_>,
+    workspace: &Workspace<'_>,
     words: &PlanWords<'_, '_, HeldSpecs<'_>>,
     steps: &[WhyStep<'_>],
 ) -> Result<(), AllocError>
-    ensures { OnOk result (Appends writer.old writer.new (spec.steps_array leads.now (words_text holds_on words.now) (map why_text steps.now))) }
+    ensures { OnOk result (Appends writer.old writer.new (spec.steps_array (workspace_text workspace.now).packages (words_text holds_on words.now) (map why_text steps.now))) }
 {
     writer.begin_array()?;
-    write_objects(alloc, writer, leads, words, steps)?;
+    write_objects(alloc, writer, workspace, words, steps)?;
     writer.end_array()
 }
 
@@ -59,14 +59,14 @@ fn write_array(
 fn write_found(
     alloc: Global,
     writer: &mut Writer,
-    leads: &Leads<'_, '_>,
+    workspace: &Workspace<'_>,
     words: &PlanWords<'_, '_, HeldSpecs<'_>>,
     found: &Option<Vec<WhyStep<'_>>>,
 ) -> Result<(), AllocError>
-    ensures { OnOk result (Appends writer.old writer.new (spec.found_array leads.now (words_text holds_on words.now) (found_text found.now))) }
+    ensures { OnOk result (Appends writer.old writer.new (spec.found_array (workspace_text workspace.now).packages (words_text holds_on words.now) (found_text found.now))) }
 {
     match found {
-        Some(steps) => write_array(alloc, writer, leads, words, steps),
+        Some(steps) => write_array(alloc, writer, workspace, words, steps),
         None => Ok(()),
     }
 }
@@ -75,14 +75,14 @@ fn write_found(
 fn write_founds(
     alloc: Global,
     writer: &mut Writer,
-    leads: &Leads<'_, '_>,
+    workspace: &Workspace<'_>,
     words: &PlanWords<'_, '_, HeldSpecs<'_>>,
     founds: &[Option<Vec<WhyStep<'_>>>],
 ) -> Result<(), AllocError>
-    ensures { OnOk result (Appends writer.old writer.new (flat_map (spec.found_array leads.now (words_text holds_on words.now)) (map found_text founds.now))) }
+    ensures { OnOk result (Appends writer.old writer.new (flat_map (spec.found_array (workspace_text workspace.now).packages (words_text holds_on words.now)) (map found_text founds.now))) }
 {
     for found in founds {
-        write_found(alloc, writer, leads, words, found)?;
+        write_found(alloc, writer, workspace, words, found)?;
     }
     Ok(())
 }
@@ -91,32 +91,32 @@ fn write_founds(
 fn write_whys(
     alloc: Global,
     writer: &mut Writer,
-    leads: &Leads<'_, '_>,
+    workspace: &Workspace<'_>,
     words: &PlanWords<'_, '_, HeldSpecs<'_>>,
     founds: &[Option<Vec<WhyStep<'_>>>],
 ) -> Result<(), AllocError>
-    ensures { OnOk result (Appends writer.old writer.new (spec.whys_member leads.now (words_text holds_on words.now) (map found_text founds.now))) }
+    ensures { OnOk result (Appends writer.old writer.new (spec.whys_member (workspace_text workspace.now).packages (words_text holds_on words.now) (map found_text founds.now))) }
 {
     writer.key("whys")?;
     writer.begin_array()?;
-    write_founds(alloc, writer, leads, words, founds)?;
+    write_founds(alloc, writer, workspace, words, founds)?;
     writer.end_array()
 }
 
 /// Returns the line with the object of the rule `rule`, which the plan of `planned` breaks, and with `founds`, which explain what breaks it.
 fn rule_object(
     alloc: Global,
-    leads: &Leads<'_, '_>,
+    workspace: &Workspace<'_>,
     planned: Planned<'_, '_, '_, '_, '_>,
     rule: Rule<'_>,
     founds: &[Option<Vec<WhyStep<'_>>>],
 ) -> Result<Vec<u8>, AllocError>
     ensures { IfOk result (λ line. line.items ≡ object_line (begin_object ∷ (rule_members planned.entry.judged (rule_text rule.entry)
-        ++ spec.whys_member leads.now (words_text holds_on planned.entry.words.now) (map found_text founds.now)))) }
+        ++ spec.whys_member (workspace_text workspace.now).packages (words_text holds_on planned.entry.words.now) (map found_text founds.now)))) }
 {
     let mut writer = begin_line(Vec::new(alloc))?;
     write_rule(&mut writer, planned.judged, rule)?;
-    write_whys(alloc, &mut writer, leads, planned.words, founds)?;
+    write_whys(alloc, &mut writer, workspace, planned.words, founds)?;
     end_line(writer)
 }
 
@@ -124,35 +124,15 @@ fn rule_object(
 fn push_rule(
     alloc: Global,
     text: &mut Vec<u8>,
-    leads: &Leads<'_, '_>,
+    workspace: &Workspace<'_>,
     planned: Planned<'_, '_, '_, '_, '_>,
     rule: Rule<'_>,
     founds: &[Option<Vec<WhyStep<'_>>>],
 ) -> Result<(), AllocError>
-    ensures { OnOk result (text.new.items ≡ text.old.items ++ spec.text_by format.Json [] planned.entry.judged leads.now (words_text holds_on planned.entry.words.now) (rule_text rule.entry) (map found_text founds.now)) }
+    ensures { OnOk result (text.new.items ≡ text.old.items ++ spec.text_by format.Json [] planned.entry.judged (workspace_text workspace.now).packages (words_text holds_on planned.entry.words.now) (rule_text rule.entry) (map found_text founds.now)) }
 {
-    let line = rule_object(alloc, leads, planned, rule, founds)?;
+    let line = rule_object(alloc, workspace, planned, rule, founds)?;
     text.extend_from_slice(&line)
-}
-
-/// Returns the lines with the objects of the rules of `verdicts`, as `rules_objects` does.
-fn objects_of_rules(
-    alloc: Global,
-    leads: &Leads<'_, '_>,
-    planned: Planned<'_, '_, '_, '_, '_>,
-    verdicts: &[Verdict<'_>],
-    founds: &[Option<Vec<WhyStep<'_>>>],
-) -> Result<Vec<u8>, AllocError>
-    ensures { IfOk result (λ text. text.items ≡ texts_by (spec.text_by format.Json [] planned.entry.judged leads.now (words_text holds_on planned.entry.words.now)) (map verdict_text verdicts.now) (map found_text founds.now)) }
-{
-    let mut text = Vec::new(alloc);
-    let mut from = 0;
-    for verdict in verdicts {
-        let (own, after) = part_at(founds, from, verdict.spots.len());
-        push_rule(alloc, &mut text, leads, planned, verdict.rule, own)?;
-        from = after;
-    }
-    Ok(text)
 }
 
 /// Returns the lines with the objects of the rules of `verdicts`, which break the plan of `planned`. `founds` explain their spots, in their
@@ -166,6 +146,12 @@ pub(crate) fn rules_objects(
 ) -> Result<Vec<u8>, AllocError>
     ensures { IfOk result (λ text. text.items ≡ texts_by (spec.text_by format.Json [] planned.entry.judged (workspace_text workspace.now).packages (words_text holds_on planned.entry.words.now)) (map verdict_text verdicts.now) (map found_text founds.now)) }
 {
-    let leads = Leads::new(alloc, workspace)?;
-    objects_of_rules(alloc, &leads, planned, verdicts, founds)
+    let mut text = Vec::new(alloc);
+    let mut from = 0;
+    for verdict in verdicts {
+        let (own, after) = part_at(founds, from, verdict.spots.len());
+        push_rule(alloc, &mut text, workspace, planned, verdict.rule, own)?;
+        from = after;
+    }
+    Ok(text)
 }

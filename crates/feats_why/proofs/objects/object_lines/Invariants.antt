@@ -1,4 +1,5 @@
 use Rattle.std.proofs.Common.{◌≡◌, ◌++◌, map, drop}
+use Rattle.cargo_workspaces.specs.Views.{package_text}
 use Rattle.feats_why.specs.Objects.{why_objects}
 use Rattle.feats_why.specs.Settings.{settings_text}
 use Rattle.plan_whys.specs.StepViews.{why_text}
@@ -6,5 +7,5 @@ use Rattle.feats_why.proofs.objects.object_lines.Given as goal
 
 abbrev pub invariant-loop-step : goal.invariant-loop-step
 invariant-loop-step g l =
-    let objects = why_objects l.leads (settings_text g.P.Platform.holds l.settings) in
+    let objects = why_objects (map package_text l.packages) (settings_text g.P.Platform.holds l.settings) in
     objects (map why_text l.steps) ≡ l.text.items ++ objects (map why_text (drop l.step-index l.steps))

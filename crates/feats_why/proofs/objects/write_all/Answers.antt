@@ -1,4 +1,5 @@
 use Rattle.std.proofs.Common.{◌∙◌, ◌++◌, map}
+use Rattle.cargo_workspaces.specs.Views.{package_text}
 use Rattle.feats_why.specs.Objects.{shown_object, step_objects}
 use Rattle.feats_why.specs.Settings.{settings_text}
 use Rattle.plan_whys.specs.StepViews.{why_text}
@@ -7,7 +8,7 @@ use Rattle.feats_why.proofs.objects.write_all.Goals as goal
 
 pub loop-step-preserved : goal.loop-step-preserved
 loop-step-preserved g c =
-    let packages = c.args.leads.now in
+    let packages = map package_text c.args.packages.now in
     let settings = settings_text g.P.Platform.holds c.args.settings.now in (
       c.in_ok-write_shown.ensures.before ∙ c.loop-step.invariant.0,
       flat_more (shown_object packages settings) why_text c.args.steps.now c.loop-step.step-index _

@@ -1,5 +1,6 @@
 use Rattle.std.proofs.Common.{[], ◌∷◌, ap, map}
 use Rattle.json.specs.Token.{begin_object}
+use Rattle.cargo_workspaces.specs.Views.{package_text}
 use Rattle.feats_why.specs.ReasonedObjects.{reasons_member}
 use Rattle.feats_why.specs.Settings.{settings_text}
 use Rattle.plan_whys.specs.StepViews.{reason_text, spot_text}
@@ -9,7 +10,7 @@ use Rattle.feats_why.proofs.reason_objects.write_reasoned.Goals as goal
 
 pub returns : goal.returns
 returns g c =
-    let reasons = reasons_member c.args.leads.now (settings_text g.P.Platform.holds c.args.settings.now) (spot_text c.args.reasoned.now.step.at) in
+    let reasons = reasons_member (map package_text c.args.packages.now) (settings_text g.P.Platform.holds c.args.settings.now) (spot_text c.args.reasoned.now.step.at) in
     on_ok c.end_object.result (wrote _ _ _ _ c.end_object.ensures) (λ last.
     appended _ _ _ (begin_object ∷ []) _ (wrote _ _ _ _ c.in_ok-begin_object.ensures)
     (appended _ _ _ _ _ c.in_ok-write_step_members.ensures

@@ -1,7 +1,6 @@
-use Rattle.std.proofs.Common.{map, refl, subst}
+use Rattle.std.proofs.Common.{map, refl}
 use Rattle.cargo_workspaces.specs.WorkspaceView.{workspace_text}
 use Rattle.plan_whys.specs.StepViews.{why_text}
-use Rattle.feats_why.specs.Objects as why
 use Rattle.feats_why_not.proofs.Tokens.{objects_of, on_ok}
 use Rattle.feats_why_not.proofs.objects.write_objects.Goals as goal
 
@@ -9,5 +8,4 @@ pub returns : goal.returns
 returns c =
     let packages = (workspace_text c.args.workspace.now).packages in
     let steps = map why_text c.args.steps.now in
-    on_ok c.write_steps.result c.write_steps.ensures (λ written.
-    objects_of _ _ packages _ _ steps steps c.settings_of.ensures refl (subst (λ ps. why.Appends _ _ (why.step_objects ps _ steps)) c.in_ok-leads.ensures written))
+    on_ok c.write_steps.result c.write_steps.ensures (λ written. objects_of _ _ packages _ _ steps steps c.settings_of.ensures refl written)

@@ -1,4 +1,5 @@
 use Rattle.std.proofs.Common.{◌≡◌, ◌∙◌, ap, List, ◌++◌, map}
+use Rattle.cargo_workspaces.specs.WorkspaceView.{workspace_text}
 use Rattle.cargo_workspaces.specs.Workspaces.{PackageText}
 use Rattle.json.specs.Written.{Written}
 use Rattle.feats_lines.proofs.Tokens.{on_ok}
@@ -15,4 +16,4 @@ objects_of a b packages s t ws e h = record { before = h.before; tokens = h.toke
 
 pub returns : goal.returns
 returns c = on_ok c.write_steps.result c.write_steps.ensures (λ written.
-    objects_of _ _ c.args.leads.now _ _ (map why_text c.args.steps.now) c.settings_of.ensures written)
+    objects_of _ _ (workspace_text c.args.workspace.now).packages _ _ (map why_text c.args.steps.now) c.settings_of.ensures written)

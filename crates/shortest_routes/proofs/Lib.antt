@@ -1,6 +1,0 @@
-pub mod ChainLemmas
-pub mod LinkLemmas
-pub mod ListLemmas
-pub mod NearestLemmas
-pub mod RouteLemmas
-pub mod SearchLemmas
