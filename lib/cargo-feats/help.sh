@@ -24,6 +24,7 @@ page() {
     /^  (cargo metadata|rustc) /d
     /^  feats /{ s//  cargo feats /; s/ --(metadata|host|manifest) [^ ]+//g; }' <<<"$said")
   case $command in
+    duplicates) said+=$'\n\n'$(usage | sed -n '/^Options of `duplicates/,/^$/p') ;;
     report | diff) said+=$'\n\n'$(usage | sed -n '/^Options of `report`/,/^$/p') ;;
   esac
   if [ "$command" = diff ]; then said+=$'\n\n'$(usage | sed -n '/^Revisions for/,/^$/p'); fi

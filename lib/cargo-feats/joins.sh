@@ -21,8 +21,8 @@ declare -A new_lines=()
 declare -A code_name=()
 # The names in the tables of the declarations that are no lines, and the names by which they call a package, by its name and the name in code, or `-`.
 declare -A own_keys=() own_names=()
-# What the last answer says: whether there are further lines, how many have no effect, and which packages and members are at fault.
-has_more='' without_effect=0
+# What the last answer says: whether there are further lines, whether some have no effect, and which packages and members are at fault.
+has_more='' without_effect=''
 declare -A differing=() unplanned=()
 
 # Ends if the option is none of the command. The answer for it is in JSON.
@@ -61,20 +61,20 @@ find_member() {
         return
         ;;
     esac
-  done < <(sed -E 's/\{"name":"[^"\\]*","version":"[^"\\]*","id":"/\n&/g' "$room/members")
+  done < <(LC_ALL=C sed -E 's/\{"name":"[^"\\]*","version":"[^"\\]*","id":"/\n&/g' "$room/members")
   fail "no member of the workspace is \`$join_word\`: the members are $(listed "${names[@]}")"
 }
 
 # Prints the number of the first line of the document with a text. Returns whether there is one.
 number_of() {
   local found
-  found=$(grep -n -m 1 -aF -- "$1" "$room/lines") && printf '%s\n' "${found%%:*}"
+  found=$(LC_ALL=C grep -n -m 1 -aF -- "$1" "$room/lines") && printf '%s\n' "${found%%:*}"
 }
 
 # Puts the document into lines, and sets `declared` and `used` to those about what the member declares and uses, with the places of the first.
 split_document() {
   local LC_ALL=C
-  sed 's/{"name":"/\n&/g; s/{"id":"/\n&/g' "$room/document" >"$room/lines"
+  LC_ALL=C sed 's/{"name":"/\n&/g; s/{"id":"/\n&/g' "$room/document" >"$room/lines"
   declared_at=$(number_of "{\"name\":\"${member[name]}\",\"version\":\"${member[version]}\",\"id\":\"${member[id]}\",") &&
     used_at=$(number_of "{\"id\":\"${member[id]}\",\"dependencies\":[") || fail "\`$cargo metadata\` doesn't say what \`${member[name]}\` depends on"
   mapfile -t declared < <(sed -n "$declared_at,\${p;/],\"targets\":\\[/q}" "$room/lines")
@@ -94,7 +94,7 @@ find_code_names() {
       '{"name":"'*) id=${line##*'"id":"'} ;;
       *) [ -n "${code_name[$id]-}" ] || code_name[$id]=${line##*'"name":"'} ;;
     esac
-  done < <(grep -aoE "$head|$library" "$room/lines")
+  done < <(LC_ALL=C grep -aoE "$head|$library" "$room/lines")
 }
 
 # Writes the document with the lines of `joined` in place of those that the manifest has to the file `joined`.
@@ -153,18 +153,18 @@ find_key() {
 
 # Adds a line to the document. The arguments are its table, the id of its package and the features.
 add_line() {
-  local key kind=null rename=null code=${code_name[$2]-${join_name[$2]}} features=${3# } mark place
+  local key kind=null rename=null library=${code_name[$2]-${join_name[$2]}} code features=${3# } mark place
   find_key "$2"
   [ -z "${own_keys[$1 $key]-}" ] || fail "\`$key\` is in [$1] of \`${member[manifest]}\` outside of the marks: remove it there, or name another member"
   if [ "$1" = build-dependencies ]; then kind='"build"'; fi
-  if [ "$key" != "${join_name[$2]}" ]; then rename=\"$key\" code=$key; fi
-  code=${code//-/_}
+  library=${library//-/_} code=$library
+  if [ "$key" != "${join_name[$2]}" ]; then rename=\"$key\" code=${key//-/_}; fi
   declarations+=",{\"name\":\"${join_name[$2]}\",\"source\":\"$CRATES_IO\",\"req\":\"=${join_version[$2]}\",\"kind\":$kind,\"rename\":$rename,\"optional\":false,"
   declarations+="\"uses_default_features\":false,\"features\":[${features:+\"${features// /\",\"}\"}],\"target\":null,\"registry\":null}"
   mark="\",\"pkg\":\"$2\",\"dep_kinds\":["
   for place in "${!used_now[@]}"; do
     if [[ ${used_now[place]} = '{"name":"'*"$mark"* ]]; then
-      check_name "$2" "$key" "${used_now[place]%%"$mark"*}"
+      check_name "$2" "$key" "${used_now[place]%%"$mark"*}" "$library"
       used_now[place]="{\"name\":\"$code$mark{\"kind\":$kind,\"target\":null},${used_now[place]#*"$mark"}"
       return
     fi
@@ -172,12 +172,12 @@ add_line() {
   uses+=",{\"name\":\"$code$mark{\"kind\":$kind,\"target\":null}]}"
 }
 
-# Ends if the manifest has another name for the package of a line. The arguments are its id, its name in the line, and the begin of the document's
-# line with its name in code.
+# Ends if the manifest has another name for the package of a line. The arguments are its id, its name in the line, the begin of the document's line
+# with its name in code, and that of its library.
 check_name() {
   local code=${3#'{"name":"'} own
   own=${own_names[${join_name[$1]} $code]-}
-  if [ -z "$own" ] && [ "$code" = "${code_name[$1]//-/_}" ]; then own=${own_names[${join_name[$1]} -]-}; fi
+  if [ -z "$own" ] && [ "$code" = "$4" ]; then own=${own_names[${join_name[$1]} -]-}; fi
   [ -z "$own" ] || [ "$own" = "$2" ] ||
     fail "\`$own\` of \`${member[manifest]}\` is the package of the line \`$2\`, and Cargo accepts one name for a package: remove it there, or name another member"
 }
@@ -194,28 +194,43 @@ extend_line() {
   joined[$place]=$all
 }
 
-# Adds the lines of the answer of feats to `joined`, and notes what it says of packages and members. Cargo builds build-dependencies for a build
-# script alone.
+# Sets a variable to a text of an object, which has no escapes. The arguments are the name of both and the object.
+read_member() {
+  [[ $2 =~ [\{,]\"$1\":\"([^\"\\]*)\" ]] || fail "feats has no \`$1\` in its answer"
+  printf -v "$1" %s "${BASH_REMATCH[1]}"
+}
+
+# Adds a line of the answer to `joined`. Cargo builds build-dependencies for a build script alone. The argument is its object.
+read_join() {
+  local package name version place table=dependencies
+  read_member place "$1"
+  if [ "$place" = host ]; then table=build-dependencies; fi
+  if [ "$table" = build-dependencies ] && [ -z "${member[script]}" ]; then
+    without_effect=yes
+    return
+  fi
+  read_member package "$1"
+  read_member name "$1"
+  read_member version "$1"
+  [[ $1 =~ \"features\":\[([^]\\]*)\] ]] || fail "feats has no \`features\` in its answer"
+  join_name[$package]=$name join_version[$package]=$version
+  place=${BASH_REMATCH[1]//\"/}
+  extend_line "$table" "$package" ${place//,/ }
+}
+
+# Adds the lines of the answer of feats to `joined`, and notes what it says of packages and members.
 read_answer() {
-  local LC_ALL=C line id table form string='"([^"\\]*)"'
-  form="^\\{\"kind\":\"join\",\"id\":$string,\"name\":$string,\"version\":$string,\"place\":$string,\"features\":\\[([^]\\\\]*)\\],\"line\":"
-  has_more='' without_effect=0 differing=() unplanned=()
+  local LC_ALL=C line name version
+  has_more='' without_effect='' differing=() unplanned=()
   while IFS= read -r line; do
-    if [[ $line =~ $form ]]; then
-      id=${BASH_REMATCH[1]} table=dependencies line=${BASH_REMATCH[5]//\"/}
-      if [ "${BASH_REMATCH[4]}" = host ]; then table=build-dependencies; fi
-      if [ "$table" = build-dependencies ] && [ -z "${member[script]}" ]; then
-        without_effect=$((without_effect + 1))
-        continue
-      fi
-      join_name[$id]=${BASH_REMATCH[2]} join_version[$id]=${BASH_REMATCH[3]}
-      extend_line "$table" "$id" ${line//,/ }
-    elif [[ $line =~ ^\{\"kind\":\"([a-z]+)\",.*\"name\":$string,\"version\":$string ]]; then
-      case ${BASH_REMATCH[1]} in
-        alone) differing["${BASH_REMATCH[2]} ${BASH_REMATCH[3]}"]=yes ;;
-        refused) unplanned["${BASH_REMATCH[2]}"]=yes ;;
-      esac
-    fi
+    case $line in
+      *'"kind":"join"'*) read_join "$line" ;;
+      *'"kind":"alone"'* | *'"kind":"refused"'*)
+        read_member name "$line"
+        read_member version "$line"
+        if [[ $line = *'"kind":"alone"'* ]]; then differing["$name $version"]=yes; else unplanned[$name]=yes; fi
+        ;;
+    esac
   done <"$room/answer"
 }
 
@@ -280,7 +295,7 @@ listed() {
 
 # Says what the lines don't do.
 say_joins() {
-  [ "$without_effect" -eq 0 ] ||
+  [ -z "$without_effect" ] ||
     say "lines for [build-dependencies] are left out, because \`${member[name]}\` has no build script: Cargo builds them for a build script alone"
   [ ${#unplanned[@]} -eq 0 ] || say "these members have no plan alone, so the lines aren't for them: $(listed "${!unplanned[@]}")"
   [ ${#differing[@]} -eq 0 ] ||

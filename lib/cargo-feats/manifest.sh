@@ -62,7 +62,7 @@ read_line() {
     [ -z "$open" ] || damaged "$number" 'begins a table between them'
     table=''
     for of in "${TABLES[@]}"; do
-      if [[ $text =~ ^\[[[:space:]]*$of[[:space:]]*\][[:space:]]*(#.*)?$ ]]; then table=$of head_at[$of]=$number; fi
+      if [[ $text =~ ^\[[[:space:]]*${of}[[:space:]]*\][[:space:]]*(#.*)?$ ]]; then table=$of head_at[$of]=$number; fi
     done
   elif [ -n "$open" ]; then
     kept_lines[$open]+=$1$'\n'
@@ -122,17 +122,17 @@ add_changes() {
   done <<<"$2"
 }
 
-# Sets `text` to the manifest with the lines of `new_lines`. Without marks they are after the head of their table, or with it at the end.
+# Sets `text` to the manifest with the lines of `new_lines`. Without marks they are put after the head of their table, or with it at the end.
 make_text() {
   local number table lines tail='' after=() dropped=()
   for table in "${TABLES[@]}"; do
     lines=${new_lines[$table]//$'\n'/"$line_end"}
     if [ -n "${begin_at[$table]-}" ]; then
-      after[begin_at[$table]]=$lines
-      for ((number = begin_at[$table] + 1; number < end_at[$table]; number++)); do dropped[number]=yes; done
+      after[${begin_at[$table]}]=$lines
+      for ((number = ${begin_at[$table]} + 1; number < ${end_at[$table]}; number++)); do dropped[number]=yes; done
     elif [ -n "$lines" ]; then
       lines=$(mark begin "$table")$line_end$lines$(mark end "$table")$line_end
-      if [ -n "${head_at[$table]-}" ]; then after[head_at[$table]]=$lines; else tail+="$line_end[$table]$line_end$lines"; fi
+      if [ -n "${head_at[$table]-}" ]; then after[${head_at[$table]}]=$lines; else tail+="${line_end}[$table]$line_end$lines"; fi
     fi
   done
   text=''
@@ -160,18 +160,22 @@ write_manifest() {
   unfinished=''
 }
 
-# Writes the manifest with the new lines, until they are tried, if it is still as it was read.
+# Writes the manifest with the new lines to try it. Ends if it isn't as it was read.
 try_manifest() {
   local text lines
   make_text
   mapfile lines 2>/dev/null <"${member[manifest]}" && [ "${lines[*]}" = "${manifest_lines[*]}" ] || fail "\`${member[manifest]}\` has changed: write the lines again"
-  write_manifest "$text" || fail "cannot write \`${member[manifest]}\`"
   replaced_text=$manifest_text has_replaced=yes
+  if ! write_manifest "$text"; then
+    has_replaced=''
+    fail "cannot write \`${member[manifest]}\`"
+  fi
 }
 
 # Writes the manifest as it was, if the new lines are still tried.
 restore_manifest() {
   [ -n "$has_replaced" ] || return 0
   has_replaced=''
+  [ -z "$unfinished" ] || rm -f -- "$unfinished"
   if write_manifest "$replaced_text"; then say "\`${member[manifest]}\` is as it was"; else say "cannot write \`${member[manifest]}\` as it was"; fi
 }
