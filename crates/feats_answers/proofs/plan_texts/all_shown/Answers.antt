@@ -11,7 +11,7 @@ use Rattle.feats_answers.proofs.plan_texts.all_shown.Goals as goal
 use Rattle.feats_answers.proofs.plan_texts.all_shown.Goals.{in-Some+in_ok-push, in_default}
 
 module _ {X Y Z : Type 0} (view : X → Y) (f : Y → Option Z) (items : List X) (i : ℕ) (x : X) (before : List Z) (within : i < length items) (is : x ≡ get_or items i x) where
-  rest : List Z
+  abbrev rest : List Z
   rest = filter_map f (map view (drop (i + 1) items))
 
   next : before ++ filter_map f (map view (drop i items)) ≡ before ++ cons_option (f (view x)) rest
