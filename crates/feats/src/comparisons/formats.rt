@@ -27,7 +27,7 @@ pub fn one_format(
     Err(refused(
         alloc,
         &[
-            "the builds of `diff` have different formats: write `--format` and `--report` before the first `--`",
+            "the builds of `diff` have different formats: write `--format` or `--report` once, before the first `--`",
         ],
     ))
 }
