@@ -390,6 +390,12 @@ def lost_lines(document, selection):
     return [line for id in ids for line in lost(id, False)] + [line for id in document.members for line in lost(id, True)]
 
 
+def exclusion_lines(document, selection):
+    """The warnings about words of `--exclude` that name no member and fit no name of one."""
+    return [f'`--exclude {word}` excludes no member of the workspace' for word in selection.excluded
+            if not set(packages_named(document, word) + members_fitting(document, word)) & set(document.members)]
+
+
 class Plan:
     def __init__(self, document, selection):
         self.packages, self.document, self.selection = document.packages, document, selection
