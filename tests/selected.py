@@ -45,7 +45,11 @@ class Selected:
         self.plan = Plan(self.document, self.selection)
 
     def run(self, command, *more, folder=None):
-        return run([command, *self.words, *more], self.given, folder)
+        """Runs a command on the selection. The warnings about words of `--exclude`, which tests/plans_run compares, are taken out."""
+        printed, said, status = run([command, *self.words, *more], self.given, folder)
+        for line in plan_model.exclusion_lines(self.document, self.selection):
+            said = said.replace(f'feats: {line}\n', '', 1)
+        return printed, said, status
 
 
 # Parts of packages.
