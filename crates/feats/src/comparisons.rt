@@ -15,5 +15,5 @@ pub use comparing::compare;
 pub use differences::Answer;
 pub use documents::{ComparedRequests, compared_requests};
 pub use engine::{run, run_by_one_document};
-pub use formats::one_format;
+pub use formats::{no_summary, one_format};
 pub use sides::{Side, SideInputs};

@@ -14,7 +14,7 @@ ghost use Rattle.std.specs.Prelude.{◌≡◌, false, IfOk};
 ghost use Rattle.byte_devices.specs.StdDevices.{read_failed};
 
 use crate::comparisons::{
-    SideInputs, compared_requests, compared_words, one_format, run as run_difference,
+    SideInputs, compared_requests, compared_words, no_summary, one_format, run as run_difference,
     run_by_one_document,
 };
 use crate::warnings::{warn, warn_of_tests};
@@ -302,6 +302,7 @@ fn compare_arguments(
 fn compare_requests(rt: &HostRuntime, old: Request<'_>, new: Request<'_>) -> Result<bool, Fault> {
     let old = command_arguments(rt.alloc(), old)?;
     let new = command_arguments(rt.alloc(), new)?;
+    no_summary(rt.alloc(), &old, &new)?;
     one_format(rt.alloc(), &old, &new)?;
     warn_of_tests(rt, old.has_old_tests || new.has_old_tests);
     let files = plan_files(rt, &old, None)?;

@@ -1,11 +1,11 @@
 -- The answers to questions about a build.
-use Rattle.std.specs.Prelude.{◌≡◌}
+use Rattle.std.specs.Prelude.{◌≡◌, false}
 use Rattle.cargo_workspaces.specs.Workspaces.{Text, WorkspaceText}
 use Rattle.cargo_plans.specs.Plans.{WordsText}
 use Rattle.plan_names.specs.Faults.{package_named}
 use Rattle.plan_rows.specs.platforms.DeclaredSpecs.{declared_specs}
 use Rattle.cargo_plans.specs.plan_steps.Plans.{PlanText}
-use Rattle.feats_words.specs.Requests.{QuestionText, check, dot, duplicates, list, plan, report, slim, specs, tree, why, why_not}
+use Rattle.feats_words.specs.Requests.{QuestionText, check, dot, duplicates, list, plan, report, routes, slim, specs, summary, tree, why, why_not}
 use Rattle.feats_answers.specs.AnswerTexts.{AnswerText}
 pub use Rattle.feats_answers.specs.AnswerTexts.{IsPositive}
 use Rattle.feats_answers.specs.Asked.{AskedText}
@@ -26,6 +26,8 @@ use Rattle.feats_answers.specs.WhyTexts.{IsWhyAnswer}
 -- The answer to one of the questions.
 abbrev pub Answers : QuestionText → AskedText → WorkspaceText → WordsText → PlanText → AnswerText → Type 0
 Answers plan a w words build = IsPositive (λ text. text ≡ text_of_units a.arguments.format a.targets w.packages build.units)
+Answers summary a w words build = IsPositive (λ text. text ≡ text_of_units a.arguments.format a.targets w.packages build.units)
+Answers (routes word) a w words build = IsWhyAnswer a.arguments.format false w words build word
 Answers (why word all) a w words build = IsWhyAnswer a.arguments.format all w words build word
 Answers (why_not word) a w words build = IsWhyNotAnswer a.arguments.format w (declared_specs w.packages) words build word
 Answers specs a w words build = IsPositive (IsSpecText a.arguments.format (declared_specs w.packages) (places a.targets words.host words.targets))
@@ -44,6 +46,8 @@ IsAnswerTo asked w words build = Answers asked.arguments.question asked w words 
 -- The message that refuses one of the questions.
 abbrev pub Refuses : QuestionText → AskedText → WorkspaceText → WordsText → PlanText → Text → Type 0
 Refuses plan a w words build = λ _. ⊥
+Refuses summary a w words build = λ _. ⊥
+Refuses (routes word) a w words build = IsWhyRefusal w words build word
 Refuses (why word all) a w words build = IsWhyRefusal w words build word
 Refuses (why_not word) a w words build = IsPartRefusal w words word
 Refuses specs a w words build = λ _. ⊥

@@ -208,6 +208,8 @@ pub fn answer_to<'w, 'n, 's>(
         Question::Why { feature, all } => {
             why_answer(alloc, format, all, workspace, words, plan, feature)
         }
+        Question::Summary => Ok(plan_answer(alloc, format, files, workspace, plan)?),
+        Question::Routes(word) => why_answer(alloc, format, false, workspace, words, plan, word),
         Question::WhyNot(word) => {
             why_not_answer(alloc, format, workspace, specs, words, plan, word)
         }

@@ -1,7 +1,7 @@
 -- Messages about the words of a command line.
 use Rattle.std.specs.Prelude.{[], ◌∷◌, codes}
 use Rattle.cargo_workspaces.specs.Workspaces.{Text}
-use Rattle.feats_words.specs.Refusals.{Refusal, bad_platform, bad_resolver, two_resolvers, bad_format, graph_format, packages_of_every_choice, exclude_alone, bad_command, bad_depth, bad_edges, out_of_memory}
+use Rattle.feats_words.specs.Refusals.{Refusal, bad_platform, bad_resolver, two_resolvers, bad_format, graph_format, summary_format, routes_of_all, packages_of_every_choice, exclude_alone, bad_command, bad_depth, bad_edges, out_of_memory}
 use Rattle.feats_files.specs.Messages.{joined}
 
 abbrev pub words_message : Refusal → Text
@@ -10,6 +10,8 @@ words_message (bad_resolver word) = joined (codes "`" ∷ word ∷ codes "` isn'
 words_message two_resolvers = joined (codes "--resolver and a manifest are both given: leave one out" ∷ [])
 words_message (bad_format word) = joined (codes "`" ∷ word ∷ codes "` isn't a format: write text or json" ∷ [])
 words_message graph_format = joined (codes "`dot` prints a graph for Graphviz: leave --format out" ∷ [])
+words_message summary_format = joined (codes "`plan --summary` prints TOML: leave --format out" ∷ [])
+words_message routes_of_all = joined (codes "--routes and --all are both given: leave one out" ∷ [])
 words_message packages_of_every_choice = joined (codes "`--every-choice` is about all members of the workspace: leave -p and --exclude out" ∷ [])
 words_message exclude_alone = joined (codes "`--exclude` leaves members out of all members: write --workspace too" ∷ [])
 words_message (bad_command word) = joined (codes "`" ∷ word ∷ codes "` isn't a command whose build is planned: write build or test" ∷ [])

@@ -41,6 +41,14 @@ pub fn words_refused(alloc: Global, fault: WordsFault<'_>) -> Fault
             alloc,
             &["`dot` prints a graph for Graphviz: leave --format out"],
         ),
+        WordsFault::SummaryFormat => refused(
+            alloc,
+            &["`plan --summary` prints TOML: leave --format out"],
+        ),
+        WordsFault::RoutesOfAll => refused(
+            alloc,
+            &["--routes and --all are both given: leave one out"],
+        ),
         WordsFault::PackagesOfEveryChoice => refused(
             alloc,
             &["`--every-choice` is about all members of the workspace: leave -p and --exclude out"],

@@ -10,8 +10,8 @@ use Rattle.feats_words.specs.Depths.{depth}
 use Rattle.feats_words.specs.Edges.{edges}
 use Rattle.feats_words.specs.FeatureWords.{words_in}
 use Rattle.feats_words.specs.PlatformWords.{PlatformText, platform_word}
-use Rattle.feats_words.specs.Refusals.{Refusal, bad_platform, bad_resolver, two_resolvers, bad_format, graph_format, packages_of_every_choice, exclude_alone, each, ◌>>=◌}
-use Rattle.feats_words.specs.Requests.{QuestionText, RequestText, TargetWordsText, check, dot, report}
+use Rattle.feats_words.specs.Refusals.{Refusal, bad_platform, bad_resolver, two_resolvers, bad_format, graph_format, summary_format, routes_of_all, packages_of_every_choice, exclude_alone, each, ◌>>=◌}
+use Rattle.feats_words.specs.Requests.{QuestionText, RequestText, TargetWordsText, check, dot, report, routes, summary}
 use Rattle.feats_words.specs.TargetWords.{is_old, is_test}
 use Rattle.feats_words.specs.declared.command_arguments.Format.{Format}
 use Rattle.feats_words.specs.declared.command_arguments.Format.TheVariants.{Text as text_format, Json as json_format}
@@ -74,11 +74,17 @@ format word = option_map_or format_named word (Ok text_format)
 abbrev pub report_format : Option Text → Result Format Refusal
 report_format word = format word >>= λ named. Ok json_format
 
--- The format of an answer to a question. `dot` takes none.
+-- The format of an answer to a question. `dot` and `plan --summary` take none.
 abbrev pub format_for : QuestionText → Option Text → Result Format Refusal
 format_for dot (Some word) = Err graph_format
+format_for summary (Some word) = Err summary_format
 format_for report word = report_format word
 format_for _ word = format word
+
+-- Routes aren't every direct reason of each step, so `--routes` excludes `--all`.
+abbrev pub not_both : QuestionText → Bool → Result (Unit {0}) Refusal
+not_both (routes word) true = Err routes_of_all
+not_both _ all = Ok tt
 
 -- A question about every choice is about all members, so no package is selected, and none excluded.
 abbrev pub all_members : QuestionText → List Text → Result (Unit {0}) Refusal
@@ -98,6 +104,7 @@ arguments r =
     format_for r.question r.format >>= λ form.
     depth r.depth >>= λ limit.
     edges r.edges >>= λ nodes.
+    not_both r.question r.all >>= λ one.
     all_members r.question r.packages >>= λ none.
     all_members r.question r.exclude >>= λ kept.
     of_all_members r.workspace r.exclude >>= λ all.

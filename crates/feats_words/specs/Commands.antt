@@ -64,10 +64,10 @@ abbrev pub report_rule : Rule
 report_rule = flag_rule (codes "report")
 
 abbrev pub plan_shape : Shape
-plan_shape = command_shape (codes "plan") (report_rule ∷ [])
+plan_shape = command_shape (codes "plan") (flag_rule (codes "summary") ∷ report_rule ∷ [])
 
 abbrev pub why_shape : Shape
-why_shape = command_shape (codes "why") (word_rule (codes "feature") ∷ flag_rule (codes "all") ∷ [])
+why_shape = command_shape (codes "why") (word_rule (codes "feature") ∷ flag_rule (codes "all") ∷ flag_rule (codes "routes") ∷ [])
 
 abbrev pub why_not_shape : Shape
 why_not_shape = command_shape (codes "why-not") (word_rule (codes "feature") ∷ [])

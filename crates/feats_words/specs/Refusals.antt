@@ -10,6 +10,8 @@ pub data Refusal : Type 0 where
   two_resolvers : Refusal
   bad_format : Text → Refusal
   graph_format : Refusal
+  summary_format : Refusal
+  routes_of_all : Refusal
   packages_of_every_choice : Refusal
   exclude_alone : Refusal
   bad_command : Text → Refusal
@@ -23,6 +25,8 @@ refusal_of (fault.Resolver word) = bad_resolver word.now
 refusal_of fault.TwoResolvers = two_resolvers
 refusal_of (fault.Format word) = bad_format word.now
 refusal_of fault.GraphFormat = graph_format
+refusal_of fault.SummaryFormat = summary_format
+refusal_of fault.RoutesOfAll = routes_of_all
 refusal_of fault.PackagesOfEveryChoice = packages_of_every_choice
 refusal_of fault.ExcludeAlone = exclude_alone
 refusal_of (fault.Command word) = bad_command word.now

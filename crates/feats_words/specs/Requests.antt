@@ -11,10 +11,13 @@ texts = map (λ t. t.now)
 
 -- The question that a command asks about a build. `why` also says whether every direct reason is wanted, `duplicates` whether the selected
 -- members are planned alone too, and `check`, whose word is the policy's file, whether it asks about every choice and whether each word of a
--- rule must name something. `slim` may name the file of the manifests. `report` asks for the data of a page.
+-- rule must name something. `slim` may name the file of the manifests. `report` asks for the data of a page, `summary` for the summary of a
+-- plan, and `routes` for the shortest routes to a feature.
 pub data QuestionText : Type 0 where
   plan : QuestionText
+  summary : QuestionText
   why : Text → Bool → QuestionText
+  routes : Text → QuestionText
   why_not : Text → QuestionText
   specs : QuestionText
   list : Text → QuestionText
@@ -42,6 +45,8 @@ pub record TargetWordsText : Type 0 where
 -- What a command line asks for.
 pub record RequestText : Type 0 where
   pub question : QuestionText
+  -- whether `--all` is given
+  pub all : Bool
   pub metadata : Text
   pub new : Option Text
   pub host : Text
@@ -96,11 +101,21 @@ target_words rows = record {
 abbrev pub built : List Row → QuestionText
 built rows = if is_given (codes "report") rows then report else plan
 
+-- The question of `plan`, or with `--summary` that about the summary.
+abbrev pub planned : List Row → QuestionText
+planned rows = if is_given (codes "summary") rows then summary else built rows
+
+-- The question of `why`, or with `--routes` that about the shortest routes.
+abbrev pub explained : List Row → QuestionText
+explained rows =
+    if is_given (codes "routes") rows then routes (required_value (codes "feature") rows)
+    else why (required_value (codes "feature") rows) (is_given (codes "all") rows)
+
 -- The question of the command with a name, by the rows of its words. `diff` compares what is built.
 abbrev pub question_of : Text → List Row → Option QuestionText
 question_of name rows =
-    if bytes_eq name (codes "plan") then Some (built rows)
-    else (if bytes_eq name (codes "why") then Some (why (required_value (codes "feature") rows) (is_given (codes "all") rows))
+    if bytes_eq name (codes "plan") then Some (planned rows)
+    else (if bytes_eq name (codes "why") then Some (explained rows)
     else (if bytes_eq name (codes "why-not") then Some (why_not (required_value (codes "feature") rows))
     else (if bytes_eq name (codes "specs") then Some specs
     else (if bytes_eq name (codes "list") then Some (list (required_value (codes "spec") rows))
@@ -116,6 +131,7 @@ question_of name rows =
 abbrev pub asked : QuestionText → List Row → RequestText
 asked question rows = record {
   question = question;
+  all = is_given (codes "all") rows;
   metadata = document rows;
   new = value (codes "new") rows;
   host = required_value (codes "host") rows;

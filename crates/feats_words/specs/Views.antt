@@ -1,6 +1,6 @@
 -- The values that Rust's types contain.
 use Rattle.std.specs.Prelude.{map, option_map}
-use Rattle.feats_words.specs.Requests.{KindWordsText, QuestionText, RequestText, TargetWordsText, check, dot, duplicates, list, plan, report, slim, specs, texts, tree, why, why_not}
+use Rattle.feats_words.specs.Requests.{KindWordsText, QuestionText, RequestText, TargetWordsText, check, dot, duplicates, list, plan, report, routes, slim, specs, summary, texts, tree, why, why_not}
 use Rattle.feats_words.specs.Arguments.{ArgumentsText, SourceText, version_given, manifest_at}
 use Rattle.feats_words.specs.PlatformWords.{PlatformText}
 use Rattle.feats_words.specs.declared.command_arguments.CommandArguments.{CommandArguments}
@@ -22,7 +22,9 @@ source_text (source.Manifest path) = manifest_at path.now
 
 abbrev pub question_text : Question → QuestionText
 question_text question.Plan = plan
+question_text question.Summary = summary
 question_text (question.Why feature all) = why feature.now all
+question_text (question.Routes word) = routes word.now
 question_text (question.WhyNot word) = why_not word.now
 question_text question.Specs = specs
 question_text (question.List word) = list word.now
@@ -70,6 +72,7 @@ arguments_text a = record {
 abbrev pub request_text : Request → RequestText
 request_text r = record {
   question = question_text r.question;
+  all = r.all;
   metadata = r.metadata.now;
   new = option_map (λ t. t.now) r.new;
   host = r.host.now;

@@ -195,13 +195,21 @@ fn worded<'a>(
 fn plan_command<'a>(alloc: Global) -> Made<'a>
     ensures { IfOk result (λ r. IsMade r (alone spec.plan_shape)) }
 {
-    worded(
+    let command = begun(
         alloc,
         "plan",
         "Prints the packages that Cargo builds, each with its features",
         PLAN_EXAMPLE,
-        report_flag(alloc, true),
-    )
+    );
+    let command = with_arg(
+        command,
+        flag(
+            alloc,
+            "summary",
+            "Print the packages as TOML, in the form of guppy-summaries",
+        ),
+    );
+    with_options(alloc, with_arg(command, report_flag(alloc, true)), false)
 }
 
 /// Returns the command `why`.
@@ -221,6 +229,14 @@ fn why_command<'a>(alloc: Global) -> Made<'a>
             alloc,
             "all",
             "Print every direct reason of each step, and not only one",
+        ),
+    );
+    let command = with_arg(
+        command,
+        flag(
+            alloc,
+            "routes",
+            "Print the shortest route to the feature from each package where one begins",
         ),
     );
     with_options(alloc, command, false)

@@ -151,14 +151,25 @@ fn report_format(word: Option<&str>) -> Result<Format, WordsFault<'_>>
 }
 
 /// Returns the format that `word` names for the answer to `question`, or JSON for the data of a page. Returns `GraphFormat` if `dot` is
-/// given a format.
+/// given a format, and `SummaryFormat` if `plan --summary` is.
 fn format_for<'a>(question: Question<'_>, word: Option<&'a str>) -> Result<Format, WordsFault<'a>>
     ensures { Gives (λ f. f) result (spec.format_for (question_text question.entry) (option_map (λ t. t.now) word.entry)) }
 {
     match (question, word) {
         (Question::Dot, Some(_)) => Err(WordsFault::GraphFormat),
+        (Question::Summary, Some(_)) => Err(WordsFault::SummaryFormat),
         (Question::Report, word) => report_format(word),
         (_, word) => format_of(word),
+    }
+}
+
+/// Returns `RoutesOfAll` if `question` is about routes and `all` is true.
+fn not_both<'a>(question: Question<'_>, all: bool) -> Result<(), WordsFault<'a>>
+    ensures { Gives (λ u. u) result (spec.not_both (question_text question.entry) all) }
+{
+    match (question, all) {
+        (Question::Routes(_), true) => Err(WordsFault::RoutesOfAll),
+        _ => Ok(()),
     }
 }
 
@@ -190,8 +201,7 @@ fn of_all_members<'a>(workspace: bool, exclude: &[&str]) -> Result<(), WordsFaul
 }
 
 /// Returns the arguments of a request. The error is the first word that can't be read: of the host, of the targets, of the resolver, of
-/// the format, of the depth, of the edges; `PackagesOfEveryChoice`; `ExcludeAlone`; `Command`; or
-/// `Memory`.
+/// the format, of the depth, of the edges; `RoutesOfAll`; `PackagesOfEveryChoice`; `ExcludeAlone`; `Command`; or `Memory`.
 pub fn arguments<'a>(
     alloc: Global,
     request: Request<'a>,
@@ -204,6 +214,7 @@ pub fn arguments<'a>(
     let format = format_for(request.question, request.format)?;
     let depth = depth_of(request.depth)?;
     let edges = edges_of(request.edges)?;
+    not_both(request.question, request.all)?;
     all_members(request.question, &request.packages)?;
     all_members(request.question, &request.exclude)?;
     of_all_members(request.workspace, &request.exclude)?;

@@ -5,6 +5,8 @@ Example:
   cargo metadata --format-version 1 --all-features >metadata.json
   rustc --print cfg --crate-type proc-macro | grep -vx proc_macro >host.cfg
   feats plan --metadata metadata.json --host x86_64-unknown-linux-gnu=host.cfg -p server -F tls
+The same as a summary, for tools that read those of guppy-summaries:
+  feats plan --summary --metadata metadata.json --host x86_64-unknown-linux-gnu=host.cfg -p server -F tls
 ";
 
 pub(crate) const WHY_EXAMPLE: &str = "\
@@ -12,6 +14,8 @@ Example, with the files of `feats plan --help`:
   feats why --metadata metadata.json --host x86_64-unknown-linux-gnu=host.cfg -p server libc/extra_traits
 The same with every direct reason of each step:
   feats why --all --metadata metadata.json --host x86_64-unknown-linux-gnu=host.cfg -p server libc/extra_traits
+The shortest route from each package where one begins:
+  feats why --routes --metadata metadata.json --host x86_64-unknown-linux-gnu=host.cfg -p server libc/extra_traits
 ";
 
 pub(crate) const WHY_NOT_EXAMPLE: &str = "\

@@ -16,6 +16,10 @@ pub enum WordsFault<'a> {
     Format(&'a str),
     /// A format is given, and `dot` prints a graph alone.
     GraphFormat,
+    /// A format is given, and `plan --summary` prints TOML alone.
+    SummaryFormat,
+    /// `--routes` and `--all` are both given.
+    RoutesOfAll,
     /// The question is about every choice, and `-p` selects packages, or `--exclude` leaves members out.
     PackagesOfEveryChoice,
     /// `--exclude` is given without `--workspace`, which it needs.

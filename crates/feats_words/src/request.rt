@@ -17,11 +17,15 @@ use std::alloc::{AllocError, Global};
 pub enum Question<'a> {
     /// Which packages are built?
     Plan,
+    /// Which packages are built, as a summary in the form of guppy-summaries?
+    Summary,
     /// Why is this feature on? With `all`, every direct reason is wanted.
     Why {
         feature: &'a str,
         all: bool,
     },
+    /// What is the shortest route to this feature from each package where one begins?
+    Routes(&'a str),
     /// Why is this feature off?
     WhyNot(&'a str),
     /// Which platform specs hold?
@@ -57,6 +61,8 @@ pub enum Question<'a> {
 #[derive(Drop)]
 pub struct Request<'a> {
     pub question: Question<'a>,
+    /// True if `--all` is given, which excludes `--routes`.
+    pub all: bool,
     /// The path of the document, or `-`.
     pub metadata: &'a str,
     /// The path of the document with which `diff` compares it, or `-`.
@@ -127,16 +133,39 @@ fn built<'a>(matches: &ArgMatches<'_>) -> Question<'a>
     }
 }
 
+/// Returns the question of `plan`: with `--summary` that about the summary.
+fn planned<'a>(matches: &ArgMatches<'_>) -> Question<'a>
+    ensures { question_text result ≡ spec.planned (rows_of (found_of matches.now)) }
+{
+    if is_given(matches, "summary") {
+        Question::Summary
+    } else {
+        built(matches)
+    }
+}
+
+/// Returns the question of `why`: with `--routes` that about the shortest routes.
+fn explained<'a>(matches: &ArgMatches<'a>) -> Question<'a>
+    ensures { question_text result ≡ spec.explained (rows_of (found_of matches.now)) }
+{
+    let feature = required_value(matches, "feature");
+    if is_given(matches, "routes") {
+        Question::Routes(feature)
+    } else {
+        Question::Why {
+            feature,
+            all: is_given(matches, "all"),
+        }
+    }
+}
+
 /// Returns the question of the command with this name; `diff` compares what is built. None if there is no such command.
 fn question_of<'a>(name: &str, matches: &ArgMatches<'a>) -> Option<Question<'a>>
     ensures { option_map question_text result ≡ spec.question_of name.now (rows_of (found_of matches.now)) }
 {
     match name {
-        "plan" => Some(built(matches)),
-        "why" => Some(Question::Why {
-            feature: required_value(matches, "feature"),
-            all: is_given(matches, "all"),
-        }),
+        "plan" => Some(planned(matches)),
+        "why" => Some(explained(matches)),
         "why-not" => Some(Question::WhyNot(required_value(matches, "feature"))),
         "specs" => Some(Question::Specs),
         "list" => Some(Question::List(required_value(matches, "spec"))),
@@ -171,6 +200,7 @@ fn asked<'a>(
 {
     Ok(Request {
         question,
+        all: is_given(matches, "all"),
         metadata: document(matches),
         new: value(matches, "new"),
         host: required_value(matches, "host"),
@@ -203,6 +233,7 @@ pub fn document_request<'a>(
 {
     Ok(Request {
         question: request.question,
+        all: request.all,
         metadata,
         new: None,
         host: request.host,

@@ -38,6 +38,16 @@ returns-in_ok-plan_answer-in-Plan-clause-answer c =
     answers (asked_text c.args.asked) (workspace_text c.args.workspace.now) (words_text holds_on c.args.words.now) (plan_text c.args.plan.now) c.args.asked.arguments.now.question question.Plan
     (Ok c.in_ok-plan_answer-in-Plan.field-0) c.in-Plan.is c.in_ok-plan_answer-in-Plan.ensures
 
+pub returns-in_ok-plan_answer-in-Summary-clause-answer : goal.returns-in_ok-plan_answer-in-Summary-clause-answer
+returns-in_ok-plan_answer-in-Summary-clause-answer c =
+    answers (asked_text c.args.asked) (workspace_text c.args.workspace.now) (words_text holds_on c.args.words.now) (plan_text c.args.plan.now) c.args.asked.arguments.now.question question.Summary
+    (Ok c.in_ok-plan_answer-in-Summary.field-0) c.in-Summary.is c.in_ok-plan_answer-in-Summary.ensures
+
+pub returns-in-Routes-clause-answer : goal.returns-in-Routes-clause-answer
+returns-in-Routes-clause-answer c =
+    answers (asked_text c.args.asked) (workspace_text c.args.workspace.now) (words_text holds_on c.args.words.now) (plan_text c.args.plan.now) c.args.asked.arguments.now.question (question.Routes c.in-Routes.word)
+    c.why_answer.result c.in-Routes.is c.why_answer.ensures.answer
+
 pub returns-in-Why-clause-answer : goal.returns-in-Why-clause-answer
 returns-in-Why-clause-answer c =
     answers (asked_text c.args.asked) (workspace_text c.args.workspace.now) (words_text holds_on c.args.words.now) (plan_text c.args.plan.now) c.args.asked.arguments.now.question (question.Why c.in-Why.feature c.in-Why.all)
