@@ -12,7 +12,7 @@ mod waiting;
 
 pub use cuts::{limit_of, with_cut_line, with_cut_object};
 pub use lines::branch_lines;
-pub use objects::branch_objects;
+pub use objects::{branch_objects, write_node};
 pub use reversals::reversed;
-pub use titles::{At, Detail, Title};
+pub use titles::{At, Detail, Title, title_of};
 pub use trees::{Branch, Trees, branches};

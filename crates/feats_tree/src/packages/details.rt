@@ -55,7 +55,7 @@ fn unit_detail<'p>(names: &[&'p str], packages: &'p [Package<'_>], unit: &Unit<'
 }
 
 /// Returns what objects show of each of `units`. `names` are those of the target platforms.
-pub(crate) fn details_of<'p>(
+pub fn details_of<'p>(
     alloc: Global,
     names: &[&'p str],
     packages: &'p [Package<'_>],
@@ -71,7 +71,7 @@ pub(crate) fn details_of<'p>(
 }
 
 /// Returns `titles` with `details`.
-pub(crate) fn titles_with<'t>(
+pub fn titles_with<'t>(
     alloc: Global,
     titles: &'t [String],
     details: &[Detail<'t>],

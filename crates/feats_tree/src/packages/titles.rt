@@ -82,7 +82,7 @@ fn titles_by(
 }
 
 /// Returns the title of each of `units`: the label of its package, and its place. `names` are those of the target platforms.
-pub(crate) fn titles_of(
+pub fn titles_of(
     alloc: Global,
     names: &[&str],
     packages: &[Package<'_>],

@@ -51,7 +51,7 @@ fn write_detail(writer: &mut Writer, detail: Detail<'_>) -> Result<(), AllocErro
 }
 
 /// Writes the members of node `number`; nothing, if `titles` has none.
-fn write_node(writer: &mut Writer, titles: &[Title<'_>], number: usize) -> Result<(), AllocError>
+pub fn write_node(writer: &mut Writer, titles: &[Title<'_>], number: usize) -> Result<(), AllocError>
     ensures { OnOk result (Appends writer.old writer.new (spec.node_members (map title_text titles.now) number)) }
 {
     match titles.get(number) {

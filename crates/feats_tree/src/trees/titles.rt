@@ -38,7 +38,7 @@ pub struct Title<'t> {
 }
 
 /// Returns the title of node `number`; an empty text, if `titles` has none.
-pub(crate) fn title_of<'t>(titles: &[Title<'t>], number: usize) -> &'t str
+pub fn title_of<'t>(titles: &[Title<'t>], number: usize) -> &'t str
     ensures { result.now ≡ title_at (map title_text titles.now) number }
 {
     match titles.get(number) {
