@@ -1,5 +1,5 @@
 -- Elements of lists.
-use Rattle.std.proofs.Common.{◌≡◌, ◌⊎◌, ◌<◌, ◌≤◌, ◌+◌, ℕ, inl, inr, ⊎_elim, refl, ap, sym, subst, List, [], ◌∷◌, ◌++◌, length, take, get_or, max, Contains, Option, Some, None, arith, not-suc-le-zero}
+use Rattle.std.proofs.Common.{◌≡◌, ◌⊎◌, ◌<◌, ◌≤◌, ◌+◌, ℕ, zero, suc, eqb, true, false, replicate, inl, inr, ⊎_elim, refl, ap, sym, subst, List, [], ◌∷◌, ◌++◌, length, take, get_or, max, Contains, Option, Some, None, arith, not-suc-le-zero}
 use Rattle.std.proofs.lemmas.List.{take_all, take_more}
 use Rattle.std.proofs.lemmas.List.Elements.{Contains-append_left, Contains-append_right, Contains-push, Contains-push_cases}
 
@@ -58,3 +58,13 @@ ends_more links i old inner new within below pair is from to c = ⊎_elim before
         let a : (get_or links i (0, 0)).0 ≡ from = ap (λ (l : ℕ × ℕ). l.0) e in
         let b : (get_or links i (0, 0)).1 ≡ to = ap (λ (l : ℕ × ℕ). l.1) e in
         (omega arith, omega arith)
+
+-- nothing is in a blank table
+pub blank_at : {X : Type 0} (count n : ℕ) → get_or {A = Option X} (replicate count None) n None ≡ None
+blank_at zero n = refl
+blank_at (suc count) zero = refl
+blank_at (suc count) (suc n) = blank_at count n
+
+pub positive : (n : ℕ) → eqb n 0 ≡ false → 0 < n
+positive zero e = absurd (let bad : true ≡ false = e in cc)
+positive (suc n) e = omega arith

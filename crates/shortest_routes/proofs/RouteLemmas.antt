@@ -53,7 +53,7 @@ module _ (steps : List (Option Step)) (nearest : List (Option ℕ)) (i : ℕ) (o
 
   pub routes_more : (start : Option ℕ) → start ≡ get_or nearest i None → AppendsRoute steps i start old new → AreRoutesTo steps nearest (i + 1) new
   routes_more None at h = without (sym at) h
-  routes_more (Some start) at h = with_route start h.0 (sym at) h.1.0 h.1.1
+  routes_more (Some start) at h = with_route start h.0 (sym at) h.1 h.2
 
 module _ (links : List (ℕ × ℕ)) (targets owners starts : List ℕ) (steps : List (Option Step)) (nearest : List (Option ℕ)) (routes : List RouteText)
     (are : AreSteps links targets steps) (size : (node owner : ℕ) → slice_get owners node ≡ Some owner → owner < length nearest)
@@ -62,7 +62,7 @@ module _ (links : List (ℕ × ℕ)) (targets owners starts : List ℕ) (steps :
   near_at o best e = subst (λ z. IsNearest steps (IsStartOf owners starts o) z) e (near o)
 
   pub starts_have_steps : HaveSteps steps nearest
-  starts_have_steps = λ owner start low e. let h = near_at owner (Some start) e in (h.1.0, h.1.1.0)
+  starts_have_steps = λ owner start low e. let h = near_at owner (Some start) e in (h.1.0, h.1.1)
 
   shortest_of : (r : RouteText) → IsRouteOf steps nearest (length nearest) r → IsShortest links targets (IsStartOf owners starts r.owner) r.nodes
   shortest_of r h =
@@ -74,10 +74,10 @@ module _ (links : List (ℕ × ℕ)) (targets owners starts : List ℕ) (steps :
         is_route = route.0;
         is_least = λ other longer is_start is_route.
             let other_step = no_shorter links targets steps are other longer is_route in
-            let a : n.1.0.distance ≤ other_step.0.distance = n.1.1.1 other other_step.0 is_start other_step.1.0 in
-            let b : other_step.0.distance + 1 ≤ length longer = other_step.1.1 in
+            let a : n.1.0.distance ≤ other_step.0.distance = n.1.2 other other_step.0 is_start other_step.1 in
+            let b : other_step.0.distance + 1 ≤ length longer = other_step.2 in
             let c : length r.nodes ≡ distance_at steps h.start + 1 = route.1 in
-            let d : distance_at steps h.start ≡ n.1.0.distance = distance_is steps h.start n.1.0 n.1.1.0 in
+            let d : distance_at steps h.start ≡ n.1.0.distance = distance_is steps h.start n.1.0 n.1.1 in
             omega arith;
       }
 
@@ -88,6 +88,6 @@ module _ (links : List (ℕ × ℕ)) (targets owners starts : List ℕ) (steps :
     all = λ owner node nodes is_start is_route.
         let s = no_shorter links targets steps are node nodes is_route in
         by_option (get_or nearest owner None)
-        (λ none. not_both (step_at steps node) s.0 (near_at owner None none node is_start) s.1.0)
+        (λ none. not_both (step_at steps node) s.0 (near_at owner None none node is_start) s.1)
         (λ start e. w.all owner start (size node owner is_start.1) e);
   }

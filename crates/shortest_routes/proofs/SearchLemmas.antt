@@ -1,5 +1,5 @@
 -- What a search keeps true.
-use Rattle.std.proofs.Common.{◌≡◌, ◌∙◌, ◌⊎◌, ◌<◌, ◌≤◌, ◌+◌, ◌↔◌, ℕ, zero, suc, inl, inr, ⊎_elim, refl, ap, sym, subst, List, [], ◌∷◌, ◌++◌, length, set, get_or, Option, Some, None, Contains, arith, get_or-set_same, get_or-set_other, length-set, le_of_suc-le-suc, not-suc-le-zero}
+use Rattle.std.proofs.Common.{◌≡◌, ◌∙◌, ◌⊎◌, ◌<◌, ◌≤◌, ◌+◌, ◌↔◌, ℕ, zero, suc, inl, inr, ⊎_elim, refl, ap, sym, subst, List, [], ◌∷◌, ◌++◌, length, set, get_or, Bool, false, eqb, Option, Some, None, Contains, arith, get_or-set_same, get_or-set_other, length-set, le_of_suc-le-suc, not-suc-le-zero}
 use Rattle.std.specs.Global.{Vec}
 use Rattle.std.proofs.lemmas.Bool.{cases_eq, cases_lt}
 use Rattle.std.proofs.lemmas.List.{length_push}
@@ -8,7 +8,7 @@ use Rattle.shortest_routes.specs.inner.Links.{AreBefore, nodes_before}
 use Rattle.shortest_routes.specs.inner.Searches.{Grows, HasStep, IsFrom, IsReached, blanks}
 use Rattle.shortest_routes.specs.inner.Steps.{AreSteps, IsNear, IsSearched, LeadsBy, step_at}
 use Rattle.shortest_routes.specs.declared.step.Step.{Step}
-use Rattle.shortest_routes.proofs.ListLemmas.{by_option, none_in, not_both, same_one}
+use Rattle.shortest_routes.proofs.ListLemmas.{by_option, none_in, not_both, positive, same_one}
 
 pub grows_none : (May : ℕ → Step → Type 0) (steps : List (Option Step)) (found : List ℕ) → Grows May steps steps found found
 grows_none May steps found = record {
@@ -91,11 +91,11 @@ pub begun : (links : List (ℕ × ℕ)) (targets : List ℕ) (blank steps : List
     → Grows (IsReached targets step) blank steps [] level → ((n : ℕ) → Contains targets n → HasStep steps n) → IsSearched links targets 0 level steps
 begun links targets blank steps step level at_zero at_end none g all = record {
   lead = λ n s e. let m = g.may n s (none n) e in subst (λ z. LeadsBy links targets steps n z.distance z.next) (sym m.1) (ends n m.0);
-  ends = λ n c. let h = all n c in (h.0, (h.1, zero_of n h.0 h.1));
+  ends = λ n c. let h = all n c in (h.0, h.1, zero_of n h.0 h.1);
   near = λ from to s c e low. absurd (not-suc-le-zero low);
   within = λ n s e. zero_of n s e;
   in_level = λ n s e d. g.has_new n (none n) (s, e);
-  of_level = λ n c. ⊎_elim (λ h. absurd (none_in n h)) (λ q. (q.1.0, (q.1.1, is_zero n q.1.0 q.1.1))) (g.appended n c);
+  of_level = λ n c. ⊎_elim (λ h. absurd (none_in n h)) (λ q. (q.1.0, q.1.1, is_zero n q.1.0 q.1.1)) (g.appended n c);
 }
   where
     is_zero : (n : ℕ) (s : Step) → step_at steps n ≡ Some s → s.distance ≡ 0
@@ -112,13 +112,13 @@ module _ (links : List (ℕ × ℕ)) (targets : List ℕ) (lists : List (Vec ℕ
     (all : (n node : ℕ) → Contains level node → Contains (nodes_before lists node) n → HasStep new n) where
   kept_leads : (n d : ℕ) (after : Option ℕ) → LeadsBy links targets steps n d after → LeadsBy links targets new n d after
   kept_leads n d None h = h
-  kept_leads n d (Some m) h = (h.0, (h.1.0, (g.kept m h.1.0 h.1.1.0, h.1.1.1)))
+  kept_leads n d (Some m) h = (h.0, (h.1.0, g.kept m h.1.0 h.1.1, h.1.2))
 
   kept_near : (n d : ℕ) → IsNear steps n d → IsNear new n d
-  kept_near n d h = (h.0, (g.kept n h.0 h.1.0, h.1.1))
+  kept_near n d h = (h.0, g.kept n h.0 h.1, h.2)
 
   new_distance : (n : ℕ) (s : Step) → step_at steps n ≡ None → step_at new n ≡ Some s → s.distance ≡ distance + 1
-  new_distance n s none e = ap (λ (z : Step). z.distance) (g.may n s none e).1.1.1
+  new_distance n s none e = ap (λ (z : Step). z.distance) (g.may n s none e).3
 
   -- the step of a node that had one
   is_old : (n : ℕ) (s t : Step) → step_at new n ≡ Some s → step_at steps n ≡ Some t → t ≡ s
@@ -127,9 +127,9 @@ module _ (links : List (ℕ × ℕ)) (targets : List ℕ) (lists : List (Vec ℕ
   new_leads : (n : ℕ) (s : Step) → step_at steps n ≡ None → step_at new n ≡ Some s → LeadsBy links targets new n s.distance s.next
   new_leads n s none e =
       let m = g.may n s none e in
-      let in_level = w.of_level m.0 m.1.0 in
-      subst (λ z. LeadsBy links targets new n z.distance z.next) (sym m.1.1.1)
-      ((before n m.0).0 m.1.1.0, (in_level.0, (g.kept m.0 in_level.0 in_level.1.0, ap (λ z. z + 1) (sym in_level.1.1))))
+      let in_level = w.of_level m.0 m.1 in
+      subst (λ z. LeadsBy links targets new n z.distance z.next) (sym m.3)
+      ((before n m.0).0 m.2, (in_level.0, g.kept m.0 in_level.0 in_level.1, ap (λ z. z + 1) (sym in_level.2)))
 
   most : (n : ℕ) (s : Step) → step_at new n ≡ Some s → s.distance ≤ distance + 1
   most n s e = by_option (step_at steps n)
@@ -144,7 +144,7 @@ module _ (links : List (ℕ × ℕ)) (targets : List ℕ) (lists : List (Vec ℕ
       let has = all from to (w.in_level to t old same) ((before from to).1 c) in
       let d : has.0.distance ≤ distance + 1 = most from has.0 has.1 in
       let e : has.0.distance ≤ t.distance + 1 = omega arith in
-      (has.0, (has.1, e))
+      (has.0, has.1, e)
 
   -- one more level
   pub searched_on : IsSearched links targets (distance + 1) next new
@@ -160,8 +160,23 @@ module _ (links : List (ℕ × ℕ)) (targets : List ℕ) (lists : List (Vec ℕ
     in_level = λ n s e d. by_option (step_at steps n)
         (λ none. g.has_new n none (s, e))
         (λ t old. absurd (let few : t.distance ≤ distance = w.within n t old in let same : t.distance ≡ s.distance = ap (λ (z : Step). z.distance) (is_old n s t e old) in omega arith));
-    of_level = λ n c. ⊎_elim (λ h. absurd (none_in n h)) (λ q. (q.1.0, (q.1.1, new_distance n q.1.0 q.0 q.1.1))) (g.appended n c);
+    of_level = λ n c. ⊎_elim (λ h. absurd (none_in n h)) (λ q. (q.1.0, q.1.1, new_distance n q.1.0 q.0 q.1.1)) (g.appended n c);
   }
+
+-- the same, where what was taken and its distance are known by equations
+pub searched_next : (links : List (ℕ × ℕ)) (targets : List ℕ) (lists : List (Vec ℕ)) (distance far : ℕ) (level taken next : List ℕ) (steps new : List (Option Step)) → far ≡ distance + 1 → taken ≡ level
+    → AreBefore links lists → IsSearched links targets distance level steps → Grows (IsFrom (nodes_before lists) taken far) steps new [] next
+    → ((n node : ℕ) → Contains taken node → Contains (nodes_before lists node) n → HasStep new n) → IsSearched links targets far next new
+searched_next links targets lists distance far level taken next steps new more same before w g all =
+    subst (λ d. IsSearched links targets d next new) (sym more)
+    (searched_on links targets lists distance level next steps new before w
+    (subst (λ l. Grows (IsFrom (nodes_before lists) l (distance + 1)) steps new [] next) same (subst (λ d. Grows (IsFrom (nodes_before lists) taken d) steps new [] next) more g))
+    (subst (λ l. (n node : ℕ) → Contains l node → Contains (nodes_before lists node) n → HasStep new n) same all))
+
+-- fewer nodes are without a step, or at the next level
+pub fewer_left : (steps new : List (Option Step)) (level next : List ℕ) (n : ℕ) (b : Bool) → n ≡ length level → b ≡ eqb n 0 → b ≡ false → blanks new + length next ≡ blanks steps + 0
+    → blanks new + length next < blanks steps + length level
+fewer_left steps new level next n b long empty isnt fewer = let some : 0 < n = positive n (sym empty ∙ isnt) in omega arith
 
 -- no node is at the next level
 pub searched_all : (links : List (ℕ × ℕ)) (targets : List ℕ) (distance : ℕ) (level : List ℕ) (steps : List (Option Step)) → IsSearched links targets distance level steps → level ≡ [] → AreSteps links targets steps

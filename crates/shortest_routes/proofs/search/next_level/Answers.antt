@@ -8,7 +8,7 @@ use Rattle.shortest_routes.proofs.search.next_level.Goals as goal
 
 pub loop-node-init : goal.loop-node-init
 loop-node-init c = record {
-  grows = subst (λ (z : List ℕ). Grows (IsFrom (nodes_before c.args.lists.now) c.args.level.now c.args.distance) c.args.steps.now.items c.args.steps.now.items [] z) (sym c.new.ensures.items)
+  grows = subst (λ (z : List ℕ). Grows (IsFrom (nodes_before c.args.lists.now) c.args.level.now c.args.distance) c.args.steps.now.items c.args.steps.now.items [] z) (sym c.new-next.ensures.items)
       (grows_none (IsFrom (nodes_before c.args.lists.now) c.args.level.now c.args.distance) c.args.steps.now.items []);
   all = λ n node h. absurd (none_in node h);
 }
@@ -16,7 +16,7 @@ loop-node-init c = record {
 pub reach_all-requires : goal.reach_all-requires
 reach_all-requires c = λ n h.
     let node = get_or c.args.level.now c.loop-node.node-index 0 in
-    subst (λ m. n < m) (sym c.loop-node.invariant.grows.size) (c.requires n node (subst (λ (z : List ℕ). Contains z n) c.before.ensures h))
+    subst (λ m. n < m) (sym c.loop-node.invariant.grows.size) (c.requires n node (subst (λ (z : List ℕ). Contains z n) c.before-in-loop-node.ensures h))
 
 pub loop-node-preserved : goal.loop-node-preserved
 loop-node-preserved c =
@@ -30,10 +30,10 @@ loop-node-preserved c =
       grows = grows_on may c.args.steps.now.items c.loop-node.steps.items c.reach_all.new.steps.items [] c.loop-node.next.items c.reach_all.new.found.items
           c.loop-node.invariant.grows
           (grows_by _ may c.loop-node.steps.items c.reach_all.new.steps.items c.loop-node.next.items c.reach_all.new.found.items
-          (λ n s h. (node, (here, (subst (λ (z : List ℕ). Contains z n) c.before.ensures h.0, h.1)))) reached);
+          (λ n s h. (node, here, subst (λ (z : List ℕ). Contains z n) c.before-in-loop-node.ensures h.0, h.1)) reached);
       all = λ n other h before. ⊎_elim
           (λ was. let old = c.loop-node.invariant.all n other was before in (old.0, reached.kept n old.0 old.1))
-          (λ same. c.in_ok-reach_all.ensures.all n (subst (λ (z : List ℕ). Contains z n) (sym c.before.ensures) (subst (λ z. Contains (nodes_before c.args.lists.now z) n) (sym same) before)))
+          (λ same. c.in_ok-reach_all.ensures.all n (subst (λ (z : List ℕ). Contains z n) (sym c.before-in-loop-node.ensures) (subst (λ z. Contains (nodes_before c.args.lists.now z) n) (sym same) before)))
           (taken_cases level i 0 other c.loop-node-test.true h);
     }
 

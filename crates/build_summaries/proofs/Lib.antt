@@ -1,0 +1,2 @@
+pub mod SortedPackages
+pub mod Ways

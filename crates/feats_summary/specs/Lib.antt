@@ -1,0 +1,4 @@
+pub mod Packages
+pub mod Places
+pub mod Summaries
+pub mod inner
