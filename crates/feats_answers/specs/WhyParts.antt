@@ -28,6 +28,6 @@ why_parts w words plan selected word =
 abbrev pub AreWhyParts : WorkspaceText → WordsText → PlanText → Text → List NamedText → Type 0
 AreWhyParts w words plan word parts = AfterWords w words (λ chosen. why_parts w words plan chosen.selected word ≡ Ok parts)
 
--- The message that refuses the word: it names nothing, or several parts of which none is built.
+-- The message about a word that names nothing, or that names several parts of which none is built.
 abbrev pub IsWhyRefusal : WorkspaceText → WordsText → PlanText → Text → Text → Type 0
 IsWhyRefusal w words plan word message = AfterWords w words (λ chosen. IsNameRefusal w.packages (why_parts w words plan chosen.selected word) message)

@@ -49,6 +49,14 @@ pub fn words_refused(alloc: Global, fault: WordsFault<'_>) -> Fault
             alloc,
             &["--routes and --all are both given: leave one out"],
         ),
+        WordsFault::ListOfNothing => refused(
+            alloc,
+            &["`list` needs a package: write NAME, NAME@VERSION or an id, or --unused"],
+        ),
+        WordsFault::UnusedOfOne => refused(
+            alloc,
+            &["`list --unused` is about all members of the workspace: leave the package out"],
+        ),
         WordsFault::PackagesOfEveryChoice => refused(
             alloc,
             &["`--every-choice` is about all members of the workspace: leave -p and --exclude out"],

@@ -51,7 +51,7 @@ pub record IsLinksText (plan : PlanText) (text : Text) : Type 0 where
   pub are_links : AreUnitLinks plan links
   pub is_text : text ≡ print (pairs_tokens links)
 
--- `text` is the array of the steps of one explanation of exactly what is on. The reason of a step names spots of earlier steps alone.
+-- `text` contains the steps of one explanation of exactly what is on. The reason of a step names only spots of earlier steps.
 pub record IsStepsText (w : WorkspaceText) (words : WordsText) (plan : PlanText) (text : Text) : Type 0 where
   pub whys : List WhyText
   pub is_explanation : IsExplanationBy w words plan.on whys

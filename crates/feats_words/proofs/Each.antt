@@ -1,7 +1,7 @@
 -- Items that are read, one after the other.
 use Rattle.std.proofs.Common.{◌≡◌, ◌∙◌, sym, ap, refl, ℕ, ◌+◌, ◌<◌, List, [], ◌∷◌, ◌++◌, drop, length, get_or, append_assoc, add-one, drop-cons, Result, Ok, Err, Bor}
 use Rattle.clap.specs.Words.{Text}
-use Rattle.feats_words.specs.Refusals.{Refusal, IfNotMemory, bad_platform, bad_resolver, two_resolvers, bad_format, graph_format, summary_format, routes_of_all, packages_of_every_choice, exclude_alone, bad_command, bad_depth, bad_edges, out_of_memory, each, ◌>>=◌}
+use Rattle.feats_words.specs.Refusals.{Refusal, IfNotMemory, bad_platform, bad_resolver, two_resolvers, bad_format, graph_format, summary_format, routes_of_all, list_of_nothing, unused_of_one, packages_of_every_choice, exclude_alone, bad_command, bad_depth, bad_edges, out_of_memory, each, ◌>>=◌}
 use Rattle.feats_words.specs.Requests.{texts}
 
 -- What was read, before what is read.
@@ -42,6 +42,8 @@ if_not_memory (bad_format word) f p = f p
 if_not_memory graph_format f p = f p
 if_not_memory summary_format f p = f p
 if_not_memory routes_of_all f p = f p
+if_not_memory list_of_nothing f p = f p
+if_not_memory unused_of_one f p = f p
 if_not_memory packages_of_every_choice f p = f p
 if_not_memory exclude_alone f p = f p
 if_not_memory (bad_command word) f p = f p

@@ -10,8 +10,8 @@ use Rattle.feats_words.specs.Depths.{depth}
 use Rattle.feats_words.specs.Edges.{edges}
 use Rattle.feats_words.specs.FeatureWords.{words_in}
 use Rattle.feats_words.specs.PlatformWords.{PlatformText, platform_word}
-use Rattle.feats_words.specs.Refusals.{Refusal, bad_platform, bad_resolver, two_resolvers, bad_format, graph_format, summary_format, routes_of_all, packages_of_every_choice, exclude_alone, each, ◌>>=◌}
-use Rattle.feats_words.specs.Requests.{QuestionText, RequestText, TargetWordsText, check, dot, report, routes, summary}
+use Rattle.feats_words.specs.Refusals.{Refusal, bad_platform, bad_resolver, two_resolvers, bad_format, graph_format, summary_format, routes_of_all, list_of_nothing, unused_of_one, packages_of_every_choice, exclude_alone, each, ◌>>=◌}
+use Rattle.feats_words.specs.Requests.{QuestionText, RequestText, TargetWordsText, check, dot, list, report, routes, summary, unused}
 use Rattle.feats_words.specs.TargetWords.{is_old, is_test}
 use Rattle.feats_words.specs.declared.command_arguments.Format.{Format}
 use Rattle.feats_words.specs.declared.command_arguments.Format.TheVariants.{Text as text_format, Json as json_format}
@@ -86,6 +86,12 @@ abbrev pub not_both : QuestionText → Bool → Result (Unit {0}) Refusal
 not_both (routes word) true = Err routes_of_all
 not_both _ all = Ok tt
 
+-- `list` is about one package, or with `--unused` about the members.
+abbrev pub of_one : QuestionText → Option Text → Result (Unit {0}) Refusal
+of_one (list word) None = Err list_of_nothing
+of_one unused (Some word) = Err unused_of_one
+of_one _ spec = Ok tt
+
 -- A question about every choice is about all members, so no package is selected, and none excluded.
 abbrev pub all_members : QuestionText → List Text → Result (Unit {0}) Refusal
 all_members (check file true strict) (word ∷ words) = Err packages_of_every_choice
@@ -105,6 +111,7 @@ arguments r =
     depth r.depth >>= λ limit.
     edges r.edges >>= λ nodes.
     not_both r.question r.all >>= λ one.
+    of_one r.question r.spec >>= λ named.
     all_members r.question r.packages >>= λ none.
     all_members r.question r.exclude >>= λ kept.
     of_all_members r.workspace r.exclude >>= λ all.

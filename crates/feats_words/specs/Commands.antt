@@ -1,5 +1,5 @@
 -- The commands of the program and their options, as `clap` knows them.
-use Rattle.std.specs.Prelude.{ℕ, List, [], ◌∷◌, ◌++◌, Some, true, codes}
+use Rattle.std.specs.Prelude.{ℕ, List, [], ◌∷◌, ◌++◌, Some, false, true, codes}
 use Rattle.clap.specs.Words.{App, Rule, Shape, Text, new_app, new_rule, with_subcommand}
 use Rattle.clap.specs.Simple.{new_shape}
 use Rattle.clap.specs.declared.builder.action.ArgAction.TheVariants.{Set, Append, SetTrue}
@@ -24,6 +24,10 @@ flag_rule name = record (new_rule name) { long = Some name; action = Some SetTru
 -- A word without an option, which is given exactly once.
 abbrev pub word_rule : Text → Rule
 word_rule name = record (new_rule name) { action = Some Set; value_names = 1; required = true }
+
+-- The same, but it may be left out.
+abbrev pub optional_word_rule : Text → Rule
+optional_word_rule name = record (word_rule name) { required = false }
 
 -- The option that names the document.
 abbrev pub document_rule : Rule
@@ -76,10 +80,10 @@ abbrev pub specs_shape : Shape
 specs_shape = command_shape (codes "specs") []
 
 abbrev pub list_shape : Shape
-list_shape = command_shape (codes "list") (word_rule (codes "spec") ∷ [])
+list_shape = command_shape (codes "list") (optional_word_rule (codes "spec") ∷ flag_rule (codes "unused") ∷ [])
 
 abbrev pub duplicates_shape : Shape
-duplicates_shape = command_shape (codes "duplicates") (flag_rule (codes "alone") ∷ [])
+duplicates_shape = command_shape (codes "duplicates") (flag_rule (codes "alone") ∷ flag_rule (codes "places") ∷ [])
 
 -- An option with a letter, which is given at most once.
 abbrev pub short_rule : Text → ℕ → Rule

@@ -12,6 +12,8 @@ pub data Refusal : Type 0 where
   graph_format : Refusal
   summary_format : Refusal
   routes_of_all : Refusal
+  list_of_nothing : Refusal
+  unused_of_one : Refusal
   packages_of_every_choice : Refusal
   exclude_alone : Refusal
   bad_command : Text → Refusal
@@ -27,6 +29,8 @@ refusal_of (fault.Format word) = bad_format word.now
 refusal_of fault.GraphFormat = graph_format
 refusal_of fault.SummaryFormat = summary_format
 refusal_of fault.RoutesOfAll = routes_of_all
+refusal_of fault.ListOfNothing = list_of_nothing
+refusal_of fault.UnusedOfOne = unused_of_one
 refusal_of fault.PackagesOfEveryChoice = packages_of_every_choice
 refusal_of fault.ExcludeAlone = exclude_alone
 refusal_of (fault.Command word) = bad_command word.now

@@ -10,8 +10,8 @@ abbrev pub texts : List (Bor Text) → List Text
 texts = map (λ t. t.now)
 
 -- The question that a command asks about a build. `why` also says whether every direct reason is wanted, `duplicates` whether the selected
--- members are planned alone too, and `check`, whose word is the policy's file, whether it asks about every choice and whether each word of a
--- rule must name something. `slim` may name the file of the manifests. `report` asks for the data of a page, `summary` for the summary of a
+-- members are planned alone too and whether packages with the same features in several places are shown, and `check`, whose word is the policy's file, whether it asks about every choice and whether each word of a
+-- rule must name something. `slim` may name the file of the manifests. `unused` asks which features of members no other package turns on, `report` for the data of a page, `summary` for the summary of a
 -- plan, and `routes` for the shortest routes to a feature.
 pub data QuestionText : Type 0 where
   plan : QuestionText
@@ -21,7 +21,8 @@ pub data QuestionText : Type 0 where
   why_not : Text → QuestionText
   specs : QuestionText
   list : Text → QuestionText
-  duplicates : Bool → QuestionText
+  unused : QuestionText
+  duplicates : Bool → Bool → QuestionText
   tree : Option Text → QuestionText
   dot : QuestionText
   report : QuestionText
@@ -47,6 +48,8 @@ pub record RequestText : Type 0 where
   pub question : QuestionText
   -- whether `--all` is given
   pub all : Bool
+  -- the package of `list`
+  pub spec : Option Text
   pub metadata : Text
   pub new : Option Text
   pub host : Text
@@ -97,7 +100,7 @@ target_words rows = record {
   benches = kind_words (codes "benches") (codes "bench") rows;
 }
 
--- The question about what is built, or with `--report` about the data of a page.
+-- The question about what is built. With `--report` it is about the data of the page.
 abbrev pub built : List Row → QuestionText
 built rows = if is_given (codes "report") rows then report else plan
 
@@ -111,6 +114,10 @@ explained rows =
     if is_given (codes "routes") rows then routes (required_value (codes "feature") rows)
     else why (required_value (codes "feature") rows) (is_given (codes "all") rows)
 
+-- The question about the features of a package. With `--unused` it is about the features that nothing uses.
+abbrev pub listed : List Row → QuestionText
+listed rows = if is_given (codes "unused") rows then unused else list (required_value (codes "spec") rows)
+
 -- The question of the command with a name, by the rows of its words. `diff` compares what is built.
 abbrev pub question_of : Text → List Row → Option QuestionText
 question_of name rows =
@@ -118,8 +125,8 @@ question_of name rows =
     else (if bytes_eq name (codes "why") then Some (explained rows)
     else (if bytes_eq name (codes "why-not") then Some (why_not (required_value (codes "feature") rows))
     else (if bytes_eq name (codes "specs") then Some specs
-    else (if bytes_eq name (codes "list") then Some (list (required_value (codes "spec") rows))
-    else (if bytes_eq name (codes "duplicates") then Some (duplicates (is_given (codes "alone") rows))
+    else (if bytes_eq name (codes "list") then Some (listed rows)
+    else (if bytes_eq name (codes "duplicates") then Some (duplicates (is_given (codes "alone") rows) (is_given (codes "places") rows))
     else (if bytes_eq name (codes "tree") then Some (tree (value (codes "invert") rows))
     else (if bytes_eq name (codes "dot") then Some dot
     else (if bytes_eq name (codes "report") then Some report
@@ -132,6 +139,7 @@ abbrev pub asked : QuestionText → List Row → RequestText
 asked question rows = record {
   question = question;
   all = is_given (codes "all") rows;
+  spec = value (codes "spec") rows;
   metadata = document rows;
   new = value (codes "new") rows;
   host = required_value (codes "host") rows;

@@ -1,6 +1,6 @@
 -- The values that Rust's types contain.
 use Rattle.std.specs.Prelude.{map, option_map}
-use Rattle.feats_words.specs.Requests.{KindWordsText, QuestionText, RequestText, TargetWordsText, check, dot, duplicates, list, plan, report, routes, slim, specs, summary, texts, tree, why, why_not}
+use Rattle.feats_words.specs.Requests.{KindWordsText, QuestionText, RequestText, TargetWordsText, check, dot, duplicates, list, plan, report, routes, slim, specs, summary, texts, tree, unused, why, why_not}
 use Rattle.feats_words.specs.Arguments.{ArgumentsText, SourceText, version_given, manifest_at}
 use Rattle.feats_words.specs.PlatformWords.{PlatformText}
 use Rattle.feats_words.specs.declared.command_arguments.CommandArguments.{CommandArguments}
@@ -28,7 +28,8 @@ question_text (question.Routes word) = routes word.now
 question_text (question.WhyNot word) = why_not word.now
 question_text question.Specs = specs
 question_text (question.List word) = list word.now
-question_text (question.Duplicates alone) = duplicates alone
+question_text question.Unused = unused
+question_text (question.Duplicates alone places) = duplicates alone places
 question_text (question.Tree invert) = tree (option_map (λ t. t.now) invert)
 question_text question.Dot = dot
 question_text question.Report = report
@@ -73,6 +74,7 @@ abbrev pub request_text : Request → RequestText
 request_text r = record {
   question = question_text r.question;
   all = r.all;
+  spec = option_map (λ t. t.now) r.spec;
   metadata = r.metadata.now;
   new = option_map (λ t. t.now) r.new;
   host = r.host.now;

@@ -10,7 +10,9 @@ use crate::examples::{
     TREE_EXAMPLE, WHY_EXAMPLE, WHY_FEATURE_HELP, WHY_NOT_EXAMPLE,
 };
 use crate::making::{Made, with_arg};
-use crate::options::{edges, flag, lettered, option, repeated, report_flag, required, short, word};
+use crate::options::{
+    edges, flag, lettered, option, optional_word, repeated, report_flag, required, short, word,
+};
 use crate::target_options::with_targets;
 use clap::{Arg, Command};
 use std::alloc::{AllocError, Global};
@@ -271,35 +273,59 @@ fn specs_command<'a>(alloc: Global) -> Made<'a>
 fn list_command<'a>(alloc: Global) -> Made<'a>
     ensures { IfOk result (λ r. IsMade r (alone spec.list_shape)) }
 {
-    worded(
+    let command = begun(
         alloc,
         "list",
         "Prints the features of a package: whether each is on, and its items",
         LIST_EXAMPLE,
-        word(
+    );
+    let command = with_arg(
+        command,
+        optional_word(
             alloc,
             "spec",
             "SPEC",
             "The package: NAME, NAME@VERSION or an id",
         ),
-    )
+    );
+    let command = with_arg(
+        command,
+        flag(
+            alloc,
+            "unused",
+            "Print instead the features of members that no other package turns on, and items that can't turn anything on",
+        ),
+    );
+    with_options(alloc, command, false)
 }
 
 /// Returns the command `duplicates`.
 fn duplicates_command<'a>(alloc: Global) -> Made<'a>
     ensures { IfOk result (λ r. IsMade r (alone spec.duplicates_shape)) }
 {
-    worded(
+    let command = begun(
         alloc,
         "duplicates",
         "Prints packages that are built in several versions or with different features",
         DUPLICATES_EXAMPLE,
+    );
+    let command = with_arg(
+        command,
         flag(
             alloc,
             "alone",
             "Print too where features differ if each selected member is built alone, and lines that join them",
         ),
-    )
+    );
+    let command = with_arg(
+        command,
+        flag(
+            alloc,
+            "places",
+            "Print too what is built with the same features for the host and for a target, or for several targets",
+        ),
+    );
+    with_options(alloc, command, false)
 }
 
 /// Returns the command `tree`.

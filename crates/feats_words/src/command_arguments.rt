@@ -173,6 +173,18 @@ fn not_both<'a>(question: Question<'_>, all: bool) -> Result<(), WordsFault<'a>>
     }
 }
 
+/// Returns `ListOfNothing` if `question` is about the features of one package and `spec` is none. Returns `UnusedOfOne` if it is about features
+/// that nothing uses and `spec` is some.
+fn of_one<'a>(question: Question<'_>, spec: Option<&str>) -> Result<(), WordsFault<'a>>
+    ensures { Gives (λ u. u) result (spec.of_one (question_text question.entry) (option_map (λ t. t.now) spec.entry)) }
+{
+    match (question, spec) {
+        (Question::List(_), None) => Err(WordsFault::ListOfNothing),
+        (Question::Unused, Some(_)) => Err(WordsFault::UnusedOfOne),
+        _ => Ok(()),
+    }
+}
+
 /// Returns `PackagesOfEveryChoice` if `question` is about every choice, and `packages`, which are selected or excluded, aren't empty.
 fn all_members<'a>(question: Question<'_>, packages: &[&str]) -> Result<(), WordsFault<'a>>
     ensures { Gives (λ u. u) result (spec.all_members (question_text question.entry) (texts packages.now)) }
@@ -201,7 +213,8 @@ fn of_all_members<'a>(workspace: bool, exclude: &[&str]) -> Result<(), WordsFaul
 }
 
 /// Returns the arguments of a request. The error is the first word that can't be read: of the host, of the targets, of the resolver, of
-/// the format, of the depth, of the edges; `RoutesOfAll`; `PackagesOfEveryChoice`; `ExcludeAlone`; `Command`; or `Memory`.
+/// the format, of the depth, of the edges; `RoutesOfAll`; `ListOfNothing`; `UnusedOfOne`; `PackagesOfEveryChoice`; `ExcludeAlone`;
+/// `Command`; or `Memory`.
 pub fn arguments<'a>(
     alloc: Global,
     request: Request<'a>,
@@ -215,6 +228,7 @@ pub fn arguments<'a>(
     let depth = depth_of(request.depth)?;
     let edges = edges_of(request.edges)?;
     not_both(request.question, request.all)?;
+    of_one(request.question, request.spec)?;
     all_members(request.question, &request.packages)?;
     all_members(request.question, &request.exclude)?;
     of_all_members(request.workspace, &request.exclude)?;

@@ -29,13 +29,15 @@ Example, with the files of `feats plan --help`:
 ";
 
 pub(crate) const LIST_EXAMPLE: &str = "\
-Example, with the files of `feats plan --help`:
+Examples, with the files of `feats plan --help`:
   feats list --metadata metadata.json --host x86_64-unknown-linux-gnu=host.cfg -p server libc
+  feats list --unused --metadata metadata.json --host x86_64-unknown-linux-gnu=host.cfg
 ";
 
 pub(crate) const DUPLICATES_EXAMPLE: &str = "\
-Examples, with the files of `feats plan --help`; the second plans each selected member alone too:
+Examples, with the files of `feats plan --help`; the last plans each selected member alone too:
   feats duplicates --metadata metadata.json --host x86_64-unknown-linux-gnu=host.cfg --workspace
+  feats duplicates --places --metadata metadata.json --host x86_64-unknown-linux-gnu=host.cfg --workspace
   feats duplicates --alone --metadata metadata.json --host x86_64-unknown-linux-gnu=host.cfg --workspace
 ";
 

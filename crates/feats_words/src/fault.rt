@@ -20,6 +20,10 @@ pub enum WordsFault<'a> {
     SummaryFormat,
     /// `--routes` and `--all` are both given.
     RoutesOfAll,
+    /// `list` has neither the word of a package nor `--unused`.
+    ListOfNothing,
+    /// `list --unused` has the word of a package.
+    UnusedOfOne,
     /// The question is about every choice, and `-p` selects packages, or `--exclude` leaves members out.
     PackagesOfEveryChoice,
     /// `--exclude` is given without `--workspace`, which it needs.

@@ -85,6 +85,19 @@ pub(crate) fn word<'a>(alloc: Global, name: &'a str, value: &'a str, help: &'a s
         .required(true)
 }
 
+/// Returns a word without an option, which is given at most once.
+pub(crate) fn optional_word<'a>(
+    alloc: Global,
+    name: &'a str,
+    value: &'a str,
+    help: &'a str,
+) -> Arg<'a>
+    ensures rule { rule_of result ≡ spec.optional_word_rule name.entry.now }
+    ensures local { result.global ≡ false }
+{
+    word(alloc, name, value, help).required(false)
+}
+
 /// Returns the option that says what the nodes of a tree or a graph are.
 pub(crate) fn edges<'a>(alloc: Global) -> Arg<'a>
     ensures rule { rule_of result ≡ spec.edges_rule }

@@ -32,9 +32,13 @@ pub enum Question<'a> {
     Specs,
     /// Which features does the package of this spec have?
     List(&'a str),
-    /// What is built several times? With `alone`, where do features differ if each selected member is built alone?
+    /// Which features of members does no other package turn on?
+    Unused,
+    /// What is built several times? With `alone`, where do features differ if each selected member is built alone? With `places`, what is built
+    /// in several places, with the same features too?
     Duplicates {
         alone: bool,
+        places: bool,
     },
     /// What depends on what? With `invert`, what depends on the part that this word names?
     Tree {
@@ -42,7 +46,7 @@ pub enum Question<'a> {
     },
     /// What depends on what, as a graph?
     Dot,
-    /// What is the data of the page about the build?
+    /// Which data does the page about the build contain?
     Report,
     /// Which rules of the policy in this file are broken? With `every_choice`, which `deny` may some choice break? With `strict`, each word
     /// must name something.
@@ -122,7 +126,7 @@ fn document<'a>(matches: &ArgMatches<'a>) -> &'a str
     }
 }
 
-/// Returns the question about what is built: with `--report` that about the data of the page.
+/// Returns the question about what is built. With `--report` it is about the data of the page.
 fn built<'a>(matches: &ArgMatches<'_>) -> Question<'a>
     ensures { question_text result ≡ spec.built (rows_of (found_of matches.now)) }
 {
@@ -159,6 +163,17 @@ fn explained<'a>(matches: &ArgMatches<'a>) -> Question<'a>
     }
 }
 
+/// Returns the question about the features of a package. With `--unused` it is about the features that nothing uses.
+fn listed<'a>(matches: &ArgMatches<'a>) -> Question<'a>
+    ensures { question_text result ≡ spec.listed (rows_of (found_of matches.now)) }
+{
+    if is_given(matches, "unused") {
+        Question::Unused
+    } else {
+        Question::List(required_value(matches, "spec"))
+    }
+}
+
 /// Returns the question of the command with this name; `diff` compares what is built. None if there is no such command.
 fn question_of<'a>(name: &str, matches: &ArgMatches<'a>) -> Option<Question<'a>>
     ensures { option_map question_text result ≡ spec.question_of name.now (rows_of (found_of matches.now)) }
@@ -168,9 +183,10 @@ fn question_of<'a>(name: &str, matches: &ArgMatches<'a>) -> Option<Question<'a>>
         "why" => Some(explained(matches)),
         "why-not" => Some(Question::WhyNot(required_value(matches, "feature"))),
         "specs" => Some(Question::Specs),
-        "list" => Some(Question::List(required_value(matches, "spec"))),
+        "list" => Some(listed(matches)),
         "duplicates" => Some(Question::Duplicates {
             alone: is_given(matches, "alone"),
+            places: is_given(matches, "places"),
         }),
         "tree" => Some(Question::Tree {
             invert: value(matches, "invert"),
@@ -201,6 +217,7 @@ fn asked<'a>(
     Ok(Request {
         question,
         all: is_given(matches, "all"),
+        spec: value(matches, "spec"),
         metadata: document(matches),
         new: value(matches, "new"),
         host: required_value(matches, "host"),
@@ -234,6 +251,7 @@ pub fn document_request<'a>(
     Ok(Request {
         question: request.question,
         all: request.all,
+        spec: request.spec,
         metadata,
         new: None,
         host: request.host,

@@ -21,7 +21,7 @@ pub record DetailText : Type 0 where
   pub version : Text
   pub at : AtText
 
--- What is shown of a node.
+-- The title of a node, and the members of its object.
 pub record TitleText : Type 0 where
   pub title : Text
   pub detail : DetailText

@@ -28,7 +28,7 @@ pub struct Detail<'t> {
     pub at: At<'t>,
 }
 
-/// What is shown of a node.
+/// The title of a node, and the members of its object.
 #[derive(Clone, Copy)]
 pub struct Title<'t> {
     /// The title in texts.

@@ -19,7 +19,7 @@ module _ {X Y Z : Type 0} (view : X → Y) (f : Y → Option Z) (items : List X)
       let at : drop i items ≡ get_or items i x ∷ drop (i + 1) items = rw (add-one, drop-cons items i x within) refl in
       ap (λ xs. before ++ filter_map f (map view xs)) at ∙ ap (λ y. before ++ cons_option (f (view y)) rest) (sym is)
 
-  -- an item of which something is shown, and one of which nothing is
+  -- an item of which something is shown, and one of which nothing is shown
   with_one : (z : Z) → f (view x) ≡ Some z → before ++ filter_map f (map view (drop i items)) ≡ (before ++ z ∷ []) ++ rest
   with_one z e = next ∙ ap (λ o. before ++ cons_option o rest) e ∙ sym (append_assoc before (z ∷ []) rest)
 

@@ -1,4 +1,4 @@
-use Rattle.std.proofs.Common.{◌∙◌, map, subst, sym, List, ℕ}
+use Rattle.std.proofs.Common.{◌∙◌, map, subst, sym}
 use Rattle.std.proofs.lemmas.Result.{IfOk-weaker}
 use Rattle.cargo_plans.specs.WordsView.{words_text}
 use Rattle.cargo_plans.specs.plan_steps.PlanViews.{plan_text}
