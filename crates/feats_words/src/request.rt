@@ -67,6 +67,8 @@ pub struct Request<'a> {
     pub question: Question<'a>,
     /// True if `--all` is given, which excludes `--routes`.
     pub all: bool,
+    /// The package of `list`.
+    pub spec: Option<&'a str>,
     /// The path of the document, or `-`.
     pub metadata: &'a str,
     /// The path of the document with which `diff` compares it, or `-`.
