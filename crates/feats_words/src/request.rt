@@ -24,7 +24,7 @@ pub enum Question<'a> {
         feature: &'a str,
         all: bool,
     },
-    /// What is the shortest route to this feature from each package where one begins?
+    /// What is a shortest chain of dependencies to the package of this word, from each selected member that leads to it?
     Routes(&'a str),
     /// Why is this feature off?
     WhyNot(&'a str),
@@ -150,7 +150,7 @@ fn planned<'a>(matches: &ArgMatches<'_>) -> Question<'a>
     }
 }
 
-/// Returns the question of `why`: with `--routes` that about the shortest routes.
+/// Returns the question of `why`. With `--routes` it is about the shortest routes.
 fn explained<'a>(matches: &ArgMatches<'a>) -> Question<'a>
     ensures { question_text result ≡ spec.explained (rows_of (found_of matches.now)) }
 {
