@@ -139,7 +139,7 @@ fn built<'a>(matches: &ArgMatches<'_>) -> Question<'a>
     }
 }
 
-/// Returns the question of `plan`: with `--summary` that about the summary.
+/// Returns the question of `plan`. With `--summary` it is about the summary.
 fn planned<'a>(matches: &ArgMatches<'_>) -> Question<'a>
     ensures { question_text result ≡ spec.planned (rows_of (found_of matches.now)) }
 {
