@@ -1,5 +1,5 @@
 -- Summaries in the form of the crate guppy-summaries.
-use Rattle.std.specs.Prelude.{◌≡◌, ℕ, List, [], ◌∷◌, ◌++◌, flat_map, codes}
+use Rattle.std.specs.Prelude.{List, ◌++◌, flat_map, codes}
 use Rattle.build_summaries.specs.declared.packages.Status.{Status}
 use Rattle.build_summaries.specs.declared.packages.Status.TheVariants.{Initial, Workspace, Direct, Transitive}
 use Rattle.build_summaries.specs.Strings.{Text, string, string_array}
@@ -20,7 +20,7 @@ pub record PackageText : Type 0 where
   pub optional_dependencies : List Text
 
 -- `name = "syn"`
-abbrev pub line : Text → Text → Text
+unfoldable pub line : Text → Text → Text
 line key value = key ++ codes " = " ++ value ++ codes "\n"
 
 abbrev pub source_line : SourceText → Text

@@ -94,10 +94,7 @@ fn after_first<'s, 'p>(names: &'s [&'p [u8]]) -> &'s [&'p [u8]]
 
 /// Returns what is left of `from` and of `to` after the names with which both begin.
 #[tactic(auto, using(crate::proofs::Ways::alike_filled, crate::proofs::Ways::way_alike, crate::proofs::Ways::way_apart))]
-fn parted<'s, 'p>(
-    from: &'s [&'p [u8]],
-    to: &'s [&'p [u8]],
-) -> (&'s [&'p [u8]], &'s [&'p [u8]])
+fn parted<'s, 'p>(from: &'s [&'p [u8]], to: &'s [&'p [u8]]) -> (&'s [&'p [u8]], &'s [&'p [u8]])
     ensures { spec.way (texts from.entry.now) (texts to.entry.now) ≡ spec.up (texts result.0.now) ++ texts result.1.now }
 {
     let mut left = from;
@@ -110,11 +107,7 @@ fn parted<'s, 'p>(
 }
 
 /// Returns the names on the way from the folder `from` to the folder `to`.
-fn way<'p>(
-    alloc: Global,
-    from: &[&'p [u8]],
-    to: &[&'p [u8]],
-) -> Result<Vec<&'p [u8]>, AllocError>
+fn way<'p>(alloc: Global, from: &[&'p [u8]], to: &[&'p [u8]]) -> Result<Vec<&'p [u8]>, AllocError>
     ensures { IfOk result (λ way. texts way.items ≡ spec.way (texts from.now) (texts to.now)) }
 {
     let (left, right) = parted(from, to);

@@ -1,5 +1,5 @@
 //! The text of a summary.
-ghost use Rattle.std.specs.Prelude.{◌≡◌, ◌++◌, IfOk, OnOk, map};
+ghost use Rattle.std.specs.Prelude.{◌≡◌, ◌++◌, IfOk, OnOk, codes, map};
 ghost use Rattle.build_summaries.specs.Orders.{IsSummary};
 ghost use Rattle.build_summaries.specs.Strings.{string, string_array};
 ghost use Rattle.build_summaries.specs.Summaries as spec;
@@ -11,6 +11,7 @@ use crate::strings::{push_array, push_str, push_string};
 use std::alloc::{AllocError, Global};
 
 /// Appends the line of `key` whose value is the string `value`.
+#[tactic(auto, unfolding(crate::specs::Summaries::line))]
 fn push_line(alloc: Global, text: &mut Vec<u8>, key: &str, value: &[u8]) -> Result<(), AllocError>
     ensures { OnOk result (text.new.items ≡ text.old.items ++ spec.line key.now (string value.now)) }
 {
@@ -21,6 +22,7 @@ fn push_line(alloc: Global, text: &mut Vec<u8>, key: &str, value: &[u8]) -> Resu
 }
 
 /// Appends the line of `key` whose value is the array of the strings `values`.
+#[tactic(auto, unfolding(crate::specs::Summaries::line))]
 fn push_array_line(
     alloc: Global,
     text: &mut Vec<u8>,
@@ -36,6 +38,7 @@ fn push_array_line(
 }
 
 /// Appends the line of `source`.
+#[tactic(auto, unfolding(crate::specs::Summaries::line))]
 fn push_source(
     alloc: Global,
     text: &mut Vec<u8>,
@@ -86,6 +89,13 @@ fn push_id(
     push_source(alloc, text, &package.source)
 }
 
+/// Appends the line of `status`.
+fn push_status(alloc: Global, text: &mut Vec<u8>, status: Status) -> Result<(), AllocError>
+    ensures { OnOk result (text.new.items ≡ text.old.items ++ spec.line (codes "status") (string (spec.status_word status))) }
+{
+    push_line(alloc, text, "status", status_word(status).as_bytes())
+}
+
 /// Appends the lines of how `package` is built.
 #[tactic(auto, unfolding(crate::specs::Summaries::state_lines))]
 fn push_state(
@@ -95,15 +105,9 @@ fn push_state(
 ) -> Result<(), AllocError>
     ensures { OnOk result (text.new.items ≡ text.old.items ++ spec.state_lines (package_text «package».now)) }
 {
-    let status = status_word(package.status);
-    push_line(alloc, text, "status", status.as_bytes())?;
+    push_status(alloc, text, package.status)?;
     push_array_line(alloc, text, "features", &package.features)?;
-    push_array_line(
-        alloc,
-        text,
-        "optional-deps",
-        &package.optional_dependencies,
-    )
+    push_array_line(alloc, text, "optional-deps", &package.optional_dependencies)
 }
 
 /// Appends the table of `package` in the array of tables `name`.

@@ -1,5 +1,5 @@
 -- The answers to questions about a build.
-use Rattle.std.specs.Prelude.{◌≡◌, false}
+use Rattle.std.specs.Prelude.{◌≡◌}
 use Rattle.cargo_workspaces.specs.Workspaces.{Text, WorkspaceText}
 use Rattle.cargo_plans.specs.Plans.{WordsText}
 use Rattle.plan_names.specs.Faults.{package_named}
@@ -17,6 +17,7 @@ use Rattle.feats_answers.specs.Parts.{IsPartRefusal}
 use Rattle.feats_answers.specs.PlanTexts.{text_of_units}
 use Rattle.feats_answers.specs.PolicyTexts.{IsCheckAnswer, IsCheckRefusal}
 use Rattle.feats_answers.specs.ReportTexts.{IsReportText}
+use Rattle.feats_answers.specs.RouteTexts.{IsRoutesAnswer}
 use Rattle.feats_answers.specs.SlimTexts.{IsNoSlim, IsSlimBy}
 use Rattle.feats_answers.specs.SpecTexts.{IsSpecText, places}
 use Rattle.feats_answers.specs.WhyNotTexts.{IsWhyNotAnswer}
@@ -27,7 +28,7 @@ use Rattle.feats_answers.specs.WhyTexts.{IsWhyAnswer}
 abbrev pub Answers : QuestionText → AskedText → WorkspaceText → WordsText → PlanText → AnswerText → Type 0
 Answers plan a w words build = IsPositive (λ text. text ≡ text_of_units a.arguments.format a.targets w.packages build.units)
 Answers summary a w words build = IsPositive (λ text. text ≡ text_of_units a.arguments.format a.targets w.packages build.units)
-Answers (routes word) a w words build = IsWhyAnswer a.arguments.format false w words build word
+Answers (routes word) a w words build = IsRoutesAnswer a.arguments.format a.targets w words build word
 Answers (why word all) a w words build = IsWhyAnswer a.arguments.format all w words build word
 Answers (why_not word) a w words build = IsWhyNotAnswer a.arguments.format w (declared_specs w.packages) words build word
 Answers specs a w words build = IsPositive (IsSpecText a.arguments.format (declared_specs w.packages) (places a.targets words.host words.targets))
@@ -47,7 +48,7 @@ IsAnswerTo asked w words build = Answers asked.arguments.question asked w words 
 abbrev pub Refuses : QuestionText → AskedText → WorkspaceText → WordsText → PlanText → Text → Type 0
 Refuses plan a w words build = λ _. ⊥
 Refuses summary a w words build = λ _. ⊥
-Refuses (routes word) a w words build = IsWhyRefusal w words build word
+Refuses (routes word) a w words build = IsNameRefusal w.packages (package_named w.packages word)
 Refuses (why word all) a w words build = IsWhyRefusal w words build word
 Refuses (why_not word) a w words build = IsPartRefusal w words word
 Refuses specs a w words build = λ _. ⊥

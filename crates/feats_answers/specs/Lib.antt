@@ -13,6 +13,7 @@ pub mod Parts
 pub mod PlanTexts
 pub mod PolicyTexts
 pub mod ReportTexts
+pub mod RouteTexts
 pub mod SlimTexts
 pub mod SpecTexts
 pub mod TreeTexts

@@ -36,6 +36,7 @@ use crate::parts::parts_of;
 use crate::plan_texts::text_of_units;
 use crate::policy_texts::{PolicyWord, check_answer};
 use crate::report_texts::report_of;
+use crate::route_texts::routes_answer;
 use crate::slim_texts::slim_text;
 use crate::spec_texts::spec_text;
 use crate::why_parts::why_parts_of;
@@ -209,7 +210,9 @@ pub fn answer_to<'w, 'n, 's>(
             why_answer(alloc, format, all, workspace, words, plan, feature)
         }
         Question::Summary => Ok(plan_answer(alloc, format, files, workspace, plan)?),
-        Question::Routes(word) => why_answer(alloc, format, false, workspace, words, plan, word),
+        Question::Routes(word) => {
+            routes_answer(alloc, format, files, workspace, words, plan, word)
+        }
         Question::WhyNot(word) => {
             why_not_answer(alloc, format, workspace, specs, words, plan, word)
         }

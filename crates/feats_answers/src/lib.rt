@@ -17,6 +17,7 @@ mod places;
 mod plan_texts;
 mod policy_texts;
 mod report_texts;
+mod route_texts;
 mod slim_texts;
 mod spec_texts;
 mod tree_texts;

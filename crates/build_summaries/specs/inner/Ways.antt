@@ -1,5 +1,5 @@
 -- Ways that begin alike.
-use Rattle.std.specs.Prelude.{List, [], ◌∷◌, Bool, false}
+use Rattle.std.specs.Prelude.{List, ◌∷◌, Bool, false}
 use Rattle.std.specs.Str.{bytes_eq}
 use Rattle.build_summaries.specs.Strings.{Text}
 

@@ -46,7 +46,7 @@ returns-in_ok-plan_answer-in-Summary-clause-answer c =
 pub returns-in-Routes-clause-answer : goal.returns-in-Routes-clause-answer
 returns-in-Routes-clause-answer c =
     answers (asked_text c.args.asked) (workspace_text c.args.workspace.now) (words_text holds_on c.args.words.now) (plan_text c.args.plan.now) c.args.asked.arguments.now.question (question.Routes c.in-Routes.word)
-    c.why_answer.result c.in-Routes.is c.why_answer.ensures.answer
+    c.routes_answer.result c.in-Routes.is c.routes_answer.ensures.answer
 
 pub returns-in-Why-clause-answer : goal.returns-in-Why-clause-answer
 returns-in-Why-clause-answer c =
