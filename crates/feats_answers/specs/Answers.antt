@@ -20,6 +20,7 @@ use Rattle.feats_answers.specs.ReportTexts.{IsReportText}
 use Rattle.feats_answers.specs.RouteTexts.{IsRoutesAnswer}
 use Rattle.feats_answers.specs.SlimTexts.{IsNoSlim, IsSlimBy}
 use Rattle.feats_answers.specs.SpecTexts.{IsSpecText, places}
+use Rattle.feats_answers.specs.SummaryTexts.{IsNoSummary, IsSummaryText}
 use Rattle.feats_answers.specs.WhyNotTexts.{IsWhyNotAnswer}
 use Rattle.feats_answers.specs.WhyParts.{IsWhyRefusal}
 use Rattle.feats_answers.specs.WhyTexts.{IsWhyAnswer}
@@ -27,7 +28,7 @@ use Rattle.feats_answers.specs.WhyTexts.{IsWhyAnswer}
 -- The answer to one of the questions.
 abbrev pub Answers : QuestionText → AskedText → WorkspaceText → WordsText → PlanText → AnswerText → Type 0
 Answers plan a w words build = IsPositive (λ text. text ≡ text_of_units a.arguments.format a.targets w.packages build.units)
-Answers summary a w words build = IsPositive (λ text. text ≡ text_of_units a.arguments.format a.targets w.packages build.units)
+Answers summary a w words build = IsPositive (IsSummaryText a.document w words build)
 Answers (routes word) a w words build = IsRoutesAnswer a.arguments.format a.targets w words build word
 Answers (why word all) a w words build = IsWhyAnswer a.arguments.format all w words build word
 Answers (why_not word) a w words build = IsWhyNotAnswer a.arguments.format w (declared_specs w.packages) words build word
@@ -47,7 +48,7 @@ IsAnswerTo asked w words build = Answers asked.arguments.question asked w words 
 -- The message that refuses one of the questions.
 abbrev pub Refuses : QuestionText → AskedText → WorkspaceText → WordsText → PlanText → Text → Type 0
 Refuses plan a w words build = λ _. ⊥
-Refuses summary a w words build = λ _. ⊥
+Refuses summary a w words build = IsNoSummary words.targets
 Refuses (routes word) a w words build = IsNameRefusal w.packages (package_named w.packages word)
 Refuses (why word all) a w words build = IsWhyRefusal w words build word
 Refuses (why_not word) a w words build = IsPartRefusal w words word

@@ -16,6 +16,7 @@ pub mod ReportTexts
 pub mod RouteTexts
 pub mod SlimTexts
 pub mod SpecTexts
+pub mod SummaryTexts
 pub mod TreeTexts
 pub mod WhyNotTexts
 pub mod WhyParts

@@ -39,6 +39,7 @@ use crate::report_texts::report_of;
 use crate::route_texts::routes_answer;
 use crate::slim_texts::slim_text;
 use crate::spec_texts::spec_text;
+use crate::summary_texts::summary_answer;
 use crate::why_parts::why_parts_of;
 use crate::why_texts::{WhyQuestion, why_answer_of};
 use cargo_plans::{Plan, PlanWords};
@@ -209,10 +210,8 @@ pub fn answer_to<'w, 'n, 's>(
         Question::Why { feature, all } => {
             why_answer(alloc, format, all, workspace, words, plan, feature)
         }
-        Question::Summary => Ok(plan_answer(alloc, format, files, workspace, plan)?),
-        Question::Routes(word) => {
-            routes_answer(alloc, format, files, workspace, words, plan, word)
-        }
+        Question::Summary => summary_answer(alloc, asked.document, workspace, words, plan),
+        Question::Routes(word) => routes_answer(alloc, format, files, workspace, words, plan, word),
         Question::WhyNot(word) => {
             why_not_answer(alloc, format, workspace, specs, words, plan, word)
         }
@@ -238,14 +237,8 @@ pub fn answer_to<'w, 'n, 's>(
             check_answer(alloc, asked, policy, workspace, specs, words, plan)
         }
         Question::Slim { manifests: _file } => {
-            slim_answer(
-                alloc,
-                format,
-                asked.member_manifests,
-                workspace,
-                words,
-                plan,
-            )
+            let manifests = asked.member_manifests;
+            slim_answer(alloc, format, manifests, workspace, words, plan)
         }
     }
 }

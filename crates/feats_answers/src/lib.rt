@@ -20,6 +20,7 @@ mod report_texts;
 mod route_texts;
 mod slim_texts;
 mod spec_texts;
+mod summary_texts;
 mod tree_texts;
 mod why_parts;
 mod why_texts;

@@ -38,10 +38,15 @@ returns-in_ok-plan_answer-in-Plan-clause-answer c =
     answers (asked_text c.args.asked) (workspace_text c.args.workspace.now) (words_text holds_on c.args.words.now) (plan_text c.args.plan.now) c.args.asked.arguments.now.question question.Plan
     (Ok c.in_ok-plan_answer-in-Plan.field-0) c.in-Plan.is c.in_ok-plan_answer-in-Plan.ensures
 
-pub returns-in_ok-plan_answer-in-Summary-clause-answer : goal.returns-in_ok-plan_answer-in-Summary-clause-answer
-returns-in_ok-plan_answer-in-Summary-clause-answer c =
+pub returns-in-Summary-clause-answer : goal.returns-in-Summary-clause-answer
+returns-in-Summary-clause-answer c =
     answers (asked_text c.args.asked) (workspace_text c.args.workspace.now) (words_text holds_on c.args.words.now) (plan_text c.args.plan.now) c.args.asked.arguments.now.question question.Summary
-    (Ok c.in_ok-plan_answer-in-Summary.field-0) c.in-Summary.is c.in_ok-plan_answer-in-Summary.ensures
+    c.summary_answer.result c.in-Summary.is c.summary_answer.ensures.answer
+
+pub returns-in-Summary-clause-fault : goal.returns-in-Summary-clause-fault
+returns-in-Summary-clause-fault c =
+    refuses (asked_text c.args.asked) (workspace_text c.args.workspace.now) (words_text holds_on c.args.words.now) (plan_text c.args.plan.now) c.args.asked.arguments.now.question question.Summary
+    c.summary_answer.result c.in-Summary.is c.summary_answer.ensures.fault
 
 pub returns-in-Routes-clause-answer : goal.returns-in-Routes-clause-answer
 returns-in-Routes-clause-answer c =
