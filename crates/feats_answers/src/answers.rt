@@ -27,7 +27,7 @@ ghost use Rattle.feats_answers.specs.WhyTexts.{IsWhyAnswer};
 
 use crate::answer::{Answer, positive};
 use crate::asked::Asked;
-use crate::duplicate_texts::duplicates_text;
+use crate::duplicate_texts::{DuplicatesQuestion, duplicates_text};
 use crate::edge_texts::{answer_to_edge_dot, answer_to_edge_tree};
 use crate::gathered::gathered;
 use crate::list_texts::list_text;
@@ -96,19 +96,18 @@ fn list_answer(
     }
 }
 
-/// Returns the answer to `duplicates`. With `alone` it is also about the plans of the selected members alone.
+/// Returns the answer to `duplicates`.
 fn duplicates_answer<'w>(
     alloc: Global,
-    format: Format,
-    alone: bool,
+    asked: DuplicatesQuestion,
     files: &[PlatformFile<'_>],
     workspace: &'w Workspace<'_>,
     words: &PlanWords<'w, '_, HeldSpecs<'_>>,
     plan: &Plan<'_>,
 ) -> Result<Answer, AllocError>
-    ensures { IfOk result (λ answer. IsPositive (IsDuplicatesText format alone (map file_text files.now) (workspace_text workspace.now) (words_text holds_on words.now) (plan_text plan.now)) (answer_text answer)) }
+    ensures { IfOk result (λ answer. IsPositive (IsDuplicatesText asked.format asked.alone asked.places (map file_text files.now) (workspace_text workspace.now) (words_text holds_on words.now) (plan_text plan.now)) (answer_text answer)) }
 {
-    let text = duplicates_text(alloc, format, alone, files, workspace, words, plan)?;
+    let text = duplicates_text(alloc, asked, files, workspace, words, plan)?;
     Ok(positive(text))
 }
 
@@ -220,9 +219,14 @@ pub fn answer_to<'w, 'n, 's>(
             let split = words.selection.split;
             list_answer(alloc, format, workspace, split, plan, word)
         }
-        Question::Duplicates { alone } => Ok(duplicates_answer(
-            alloc, format, alone, files, workspace, words, plan,
-        )?),
+        Question::Duplicates { alone, places } => {
+            let asked = DuplicatesQuestion {
+                format,
+                alone,
+                places,
+            };
+            Ok(duplicates_answer(alloc, asked, files, workspace, words, plan)?)
+        }
         Question::Tree { invert } => {
             answer_to_edge_tree(alloc, asked, workspace, words, plan, invert)
         }

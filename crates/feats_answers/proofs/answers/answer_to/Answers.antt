@@ -68,7 +68,7 @@ returns-in_ok-specs_answer-in-Specs-clause-answer c =
 
 pub returns-in_ok-duplicates_answer-in-Duplicates-clause-answer : goal.returns-in_ok-duplicates_answer-in-Duplicates-clause-answer
 returns-in_ok-duplicates_answer-in-Duplicates-clause-answer c =
-    answers (asked_text c.args.asked) (workspace_text c.args.workspace.now) (words_text holds_on c.args.words.now) (plan_text c.args.plan.now) c.args.asked.arguments.now.question (question.Duplicates c.in-Duplicates.alone)
+    answers (asked_text c.args.asked) (workspace_text c.args.workspace.now) (words_text holds_on c.args.words.now) (plan_text c.args.plan.now) c.args.asked.arguments.now.question (question.Duplicates c.in-Duplicates.alone c.in-Duplicates.places)
     (Ok c.in_ok-duplicates_answer-in-Duplicates.field-0) c.in-Duplicates.is c.in_ok-duplicates_answer-in-Duplicates.ensures
 
 pub returns-in-List-clause-answer : goal.returns-in-List-clause-answer
