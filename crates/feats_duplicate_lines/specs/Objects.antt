@@ -1,5 +1,5 @@
 -- The lines as JSON objects.
-use Rattle.std.specs.Prelude.{Bool, List, [], ◌∷◌, ◌++◌, flat_map, map, codes}
+use Rattle.std.specs.Prelude.{Bool, List, ◌∷◌, ◌++◌, flat_map, map, codes}
 use Rattle.json.specs.Token.{Token, begin_object}
 use Rattle.cargo_workspaces.specs.Workspaces.{Text, PackageText}
 use Rattle.feats_lines.specs.parts.Members.{flag_member, object_line, text_member, texts_member}

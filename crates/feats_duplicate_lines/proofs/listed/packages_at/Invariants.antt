@@ -1,4 +1,4 @@
-use Rattle.std.proofs.Common.{◌≡◌, ◌++◌, flat_map, map, drop}
+use Rattle.std.proofs.Common.{◌≡◌, ◌++◌, map, drop}
 use Rattle.cargo_workspaces.specs.Views.{package_text}
 use Rattle.feats_duplicate_lines.specs.Shown.{packages_at}
 use Rattle.feats_duplicate_lines.specs.Views.{dependents_text}
