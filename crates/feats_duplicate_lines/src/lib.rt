@@ -2,6 +2,7 @@
 #![tactic(auto)]
 
 mod alone;
+mod dependents;
 mod gathered;
 mod listed;
 mod manifest_lines;

@@ -1,46 +1,69 @@
 //! The lines about versions and places, and about members without a plan.
-ghost use Rattle.std.specs.Prelude.{◌≡◌, ◌++◌, OnOk, map, flat_map};
+ghost use Rattle.std.specs.Prelude.{◌≡◌, ◌++◌, IfOk, OnOk, map, flat_map};
 ghost use Rattle.cargo_workspaces.specs.Views.{package_text, texts};
-ghost use Rattle.feats_duplicates.specs.Views.{member_plan_text, outcome_text, placed_text, places_text, versions_text};
+ghost use Rattle.feats_duplicates.specs.Views.{member_plan_text, outcome_text, placed_text, places_text, version_text, versions_text};
 ghost use Rattle.feats_duplicate_lines.specs.Shown as spec;
 ghost use Rattle.feats_duplicate_lines.specs.Views.{shown_text};
 
+use crate::dependents::packages_at;
 use crate::place_names::place_name;
 use crate::shown::{Shown, package_at, push_shown};
 use cargo_workspaces::Package;
-use feats_duplicates::{MemberPlan, Outcome, PlaceFeatures, Places, Versions};
-use std::alloc::AllocError;
+use feats_duplicates::{MemberPlan, Outcome, PlaceFeatures, Places, Version, Versions};
+use std::alloc::{AllocError, Global};
 
-/// Appends the line of package `number`, which is one of several with its name.
+/// Returns the line of `package`, on which the packages with the numbers `dependents` depend.
+fn version_line<'u, 'v, 'w>(
+    alloc: Global,
+    packages: &'u [Package<'v>],
+    package: &'u Package<'v>,
+    dependents: &[usize],
+) -> Result<Shown<'u, 'v, 'w>, AllocError>
+    ensures { IfOk result (λ line. shown_text line ≡ spec.version (package_text «package».now) (spec.packages_at (map package_text packages.now) dependents.now)) }
+{
+    let dependents = packages_at(alloc, packages, dependents)?;
+    Ok(Shown::Version {
+        package,
+        dependents,
+    })
+}
+
+/// Appends the line of `version`.
 fn push_version<'u, 'v, 'w>(
+    alloc: Global,
     shown: &mut Vec<Shown<'u, 'v, 'w>>,
     packages: &'u [Package<'v>],
-    number: usize,
+    version: &Version,
 ) -> Result<(), AllocError>
-    ensures { OnOk result (map shown_text shown.new.items ≡ map shown_text shown.old.items ++ spec.version_at (map package_text packages.now) number) }
+    ensures { OnOk result (map shown_text shown.new.items ≡ map shown_text shown.old.items ++ spec.version_at (map package_text packages.now) (version_text version.now)) }
 {
-    match package_at(packages, number) {
-        Some(package) => push_shown(shown, Shown::Version { package }),
+    match package_at(packages, version.package) {
+        Some(package) => {
+            let line = version_line(alloc, packages, package, &version.dependents)?;
+            push_shown(shown, line)
+        }
         None => Ok(()),
     }
 }
 
-/// Appends the lines of packages with these numbers.
-fn push_numbers<'u, 'v, 'w>(
+/// Appends the lines of `versions`, which have one name.
+fn push_named<'u, 'v, 'w>(
+    alloc: Global,
     shown: &mut Vec<Shown<'u, 'v, 'w>>,
     packages: &'u [Package<'v>],
-    numbers: &[usize],
+    versions: &[Version],
 ) -> Result<(), AllocError>
-    ensures { OnOk result (map shown_text shown.new.items ≡ map shown_text shown.old.items ++ flat_map (spec.version_at (map package_text packages.now)) numbers.now) }
+    ensures { OnOk result (map shown_text shown.new.items ≡ map shown_text shown.old.items ++ flat_map (spec.version_at (map package_text packages.now)) (map version_text versions.now)) }
 {
-    for number in numbers {
-        push_version(shown, packages, *number)?;
+    for version in versions {
+        push_version(alloc, shown, packages, version)?;
     }
     Ok(())
 }
 
 /// Appends the lines of `versions`.
 pub(crate) fn push_versions<'u, 'v, 'w>(
+    alloc: Global,
     shown: &mut Vec<Shown<'u, 'v, 'w>>,
     packages: &'u [Package<'v>],
     versions: &[Versions<'_>],
@@ -48,7 +71,7 @@ pub(crate) fn push_versions<'u, 'v, 'w>(
     ensures { OnOk result (map shown_text shown.new.items ≡ map shown_text shown.old.items ++ flat_map (spec.versions_of (map package_text packages.now)) (map versions_text versions.now)) }
 {
     for one in versions {
-        push_numbers(shown, packages, &one.packages)?;
+        push_named(alloc, shown, packages, &one.versions)?;
     }
     Ok(())
 }

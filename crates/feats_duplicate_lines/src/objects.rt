@@ -3,8 +3,9 @@ ghost use Rattle.std.specs.Prelude.{◌≡◌, ◌++◌, IfOk, OnOk, map, flat_m
 ghost use Rattle.cargo_workspaces.specs.Views.{package_text, texts};
 ghost use Rattle.feats_lines.specs.parts.Members.{Appends};
 ghost use Rattle.feats_duplicate_lines.specs.Objects as spec;
-ghost use Rattle.feats_duplicate_lines.specs.Views.{shown_text};
+ghost use Rattle.feats_duplicate_lines.specs.Views.{package_texts, shown_text};
 
+use crate::dependents::ids_of;
 use crate::manifest_lines::manifest_line;
 use crate::rows::{kind_of, package_of};
 use crate::shown::Shown;
@@ -21,6 +22,18 @@ fn write_head(writer: &mut Writer, kind: &str, package: &Package<'_>) -> Result<
     write_member(writer, "package", package.id)?;
     write_member(writer, "name", package.name)?;
     write_member(writer, "version", package.version)
+}
+
+/// Writes the ids of the packages that depend on a version.
+fn write_dependents(
+    alloc: Global,
+    writer: &mut Writer,
+    dependents: &[&Package<'_>],
+) -> Result<(), AllocError>
+    ensures { OnOk result (Appends writer.old writer.new (spec.version_members (package_texts dependents.now))) }
+{
+    let ids = ids_of(alloc, dependents)?;
+    write_texts(writer, "dependents", &ids)
 }
 
 /// Writes the place and the features.
@@ -70,7 +83,7 @@ fn write_detail(
     ensures { OnOk result (Appends writer.old writer.new (spec.detail (shown_text shown.now))) }
 {
     match shown {
-        Shown::Version { .. } => Ok(()),
+        Shown::Version { dependents, .. } => write_dependents(alloc, writer, dependents),
         Shown::InPlace {
             place,
             features,
