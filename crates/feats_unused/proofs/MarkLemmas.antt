@@ -1,5 +1,5 @@
 -- What marking keeps true.
-use Rattle.std.proofs.Common.{◌≡◌, ◌∙◌, ◌⊎◌, ◌<◌, ◌≤◌, ◌+◌, ℕ, zero, suc, inl, inr, ⊎_elim, refl, ap, sym, subst, List, [], ◌∷◌, ◌++◌, length, set, get_or, replicate, take, map, Bool, true, false, Contains, IsTrue, arith, get_or-set_same, get_or-set_other, length-set, le_of_suc-le-suc, not-suc-le-zero}
+use Rattle.std.proofs.Common.{◌≡◌, ◌∙◌, ◌⊎◌, ◌<◌, ◌≤◌, ◌+◌, ℕ, zero, suc, inl, inr, ⊎_elim, refl, ap, sym, subst, List, [], ◌∷◌, ◌++◌, length, set, get_or, replicate, take, Bool, true, false, Contains, IsTrue, arith, get_or-set_same, get_or-set_other, length-set, le_of_suc-le-suc, not-suc-le-zero}
 use Rattle.std.specs.Prelude.{Some, None, Option, slice_get}
 use Rattle.std.specs.Option.{option_map_or}
 use Rattle.std.specs.Borrow.{Bor}

@@ -1,4 +1,4 @@
-use Rattle.std.proofs.Common.{◌≡◌, ◌∙◌, Bool, ap, not, sym}
+use Rattle.std.proofs.Common.{◌∙◌, Bool, ap, not, sym}
 use Rattle.guppy_packages.specs.Items.{slash_item}
 use Rattle.feats_unused.specs.Dead.{is_dead}
 use Rattle.feats_unused.proofs.dead.is_dead.Goals as goal

@@ -1,4 +1,4 @@
-use Rattle.std.proofs.Common.{◌≡◌, ◌∙◌, ◌++◌, ◌∷◌, [], ℕ, Bool, List, sym, ap, subst, set, true, false}
+use Rattle.std.proofs.Common.{◌≡◌, ◌∙◌, ℕ, Bool, List, sym, ap, subst, set, true, false}
 use Rattle.feats_unused.specs.inner.Marks.{Marks, flag}
 use Rattle.feats_unused.proofs.MarkLemmas.{marks_none, marks_one}
 use Rattle.feats_unused.proofs.used.mark.Goals as goal

@@ -1,4 +1,4 @@
-use Rattle.std.proofs.Common.{subst, sym, true}
+use Rattle.std.proofs.Common.{subst, true}
 use Rattle.std.specs.Prelude.{◌≡◌}
 use Rattle.cargo_workspaces.specs.Views.{package_text}
 use Rattle.feats_lines.proofs.Tokens.{on_ok}

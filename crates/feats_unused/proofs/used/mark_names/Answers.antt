@@ -1,4 +1,4 @@
-use Rattle.std.proofs.Common.{◌≡◌, ◌∙◌, ◌∷◌, []}
+use Rattle.std.proofs.Common.{◌∙◌}
 use Rattle.cargo_workspaces.specs.Views.{package_text, texts}
 use Rattle.feats_unused.specs.inner.Marks.{HasName}
 use Rattle.feats_unused.proofs.MarkLemmas.{all_marked, marked_more, marks_by, marks_none, marks_on, none_in, wider_name}

@@ -1,9 +1,7 @@
-use Rattle.std.proofs.Common.{◌≡◌, ◌∙◌, ◌∷◌, ◌-◌, [], ℕ, Bool, List, ap, append-nil, arith, false, length, replicate, subst, sym, take, vec_len}
-use Rattle.std.specs.Borrow.{Bor}
+use Rattle.std.proofs.Common.{◌≡◌, ◌∙◌, ◌-◌, [], ℕ, Bool, List, ap, append-nil, arith, false, length, replicate, subst, sym, take, vec_len}
 use Rattle.cargo_workspaces.specs.Views.{feature_text, package_text, texts}
-use Rattle.cargo_workspaces.specs.Workspaces.{Text}
 use Rattle.std.proofs.lemmas.List.{length-map, length-replicate}
-use Rattle.feats_unused.specs.inner.Marks.{HasName, IsMarked, Marks}
+use Rattle.feats_unused.specs.inner.Marks.{HasName, Marks}
 use Rattle.feats_unused.proofs.MarkLemmas.{IsWalked, are_used, fewer_left, walk_begun, walked_on}
 use Rattle.feats_unused.proofs.used.used_features.Goals as goal
 
