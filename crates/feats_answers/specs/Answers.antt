@@ -5,7 +5,7 @@ use Rattle.cargo_plans.specs.Plans.{WordsText}
 use Rattle.plan_names.specs.Faults.{package_named}
 use Rattle.plan_rows.specs.platforms.DeclaredSpecs.{declared_specs}
 use Rattle.cargo_plans.specs.plan_steps.Plans.{PlanText}
-use Rattle.feats_words.specs.Requests.{QuestionText, check, dot, duplicates, list, plan, report, routes, slim, specs, summary, tree, why, why_not}
+use Rattle.feats_words.specs.Requests.{QuestionText, check, dot, duplicates, list, plan, report, routes, slim, specs, summary, tree, unused, why, why_not}
 use Rattle.feats_answers.specs.AnswerTexts.{AnswerText}
 pub use Rattle.feats_answers.specs.AnswerTexts.{IsPositive}
 use Rattle.feats_answers.specs.Asked.{AskedText}
@@ -21,6 +21,7 @@ use Rattle.feats_answers.specs.RouteTexts.{IsRoutesAnswer}
 use Rattle.feats_answers.specs.SlimTexts.{IsNoSlim, IsSlimBy}
 use Rattle.feats_answers.specs.SpecTexts.{IsSpecText, places}
 use Rattle.feats_answers.specs.SummaryTexts.{IsNoSummary, IsSummaryText}
+use Rattle.feats_answers.specs.UnusedTexts.{IsUnusedText}
 use Rattle.feats_answers.specs.WhyNotTexts.{IsWhyNotAnswer}
 use Rattle.feats_answers.specs.WhyParts.{IsWhyRefusal}
 use Rattle.feats_answers.specs.WhyTexts.{IsWhyAnswer}
@@ -34,7 +35,8 @@ Answers (why word all) a w words build = IsWhyAnswer a.arguments.format all w wo
 Answers (why_not word) a w words build = IsWhyNotAnswer a.arguments.format w (declared_specs w.packages) words build word
 Answers specs a w words build = IsPositive (IsSpecText a.arguments.format (declared_specs w.packages) (places a.targets words.host words.targets))
 Answers (list word) a w words build = IsPositive (IsListText a.arguments.format w words.selection.split build word)
-Answers (duplicates alone) a w words build = IsPositive (IsDuplicatesText a.arguments.format alone a.targets w words build)
+Answers unused a w words build = IsPositive (IsUnusedText a.arguments.format w)
+Answers (duplicates alone places) a w words build = IsPositive (IsDuplicatesText a.arguments.format alone places a.targets w words build)
 Answers (tree invert) a w words build = IsTreeBy a.arguments.edges a w words build invert
 Answers dot a w words build = IsDotBy a.arguments.edges a.targets w words build
 Answers report a w words build = IsPositive (IsReportText a.targets w (declared_specs w.packages) words build)
@@ -54,7 +56,8 @@ Refuses (why word all) a w words build = IsWhyRefusal w words build word
 Refuses (why_not word) a w words build = IsPartRefusal w words word
 Refuses specs a w words build = λ _. ⊥
 Refuses (list word) a w words build = IsNameRefusal w.packages (package_named w.packages word)
-Refuses (duplicates alone) a w words build = λ _. ⊥
+Refuses unused a w words build = λ _. ⊥
+Refuses (duplicates alone places) a w words build = λ _. ⊥
 Refuses (tree invert) a w words build = IsNoTreeBy a.arguments.edges w words invert
 Refuses dot a w words build = λ _. ⊥
 Refuses report a w words build = λ _. ⊥

@@ -12,12 +12,11 @@ ghost use Rattle.feats_duplicate_lines.specs.feats_duplicates.Views.{member_plan
 ghost use Rattle.feats_duplicate_lines.specs.feats_duplicates.DisagreementViews.{disagreement_text};
 ghost use Rattle.plan_rows.specs.platforms.HeldSpecs.{holds_on};
 ghost use Rattle.cargo_plans.specs.plan_steps.PlanViews.{plan_text};
-ghost use Rattle.cargo_plans.specs.plan_units.UnitViews.{unit_text};
 ghost use Rattle.feats_answers.specs.DuplicateTexts as spec;
 ghost use Rattle.feats_answers.specs.PlanTexts as names;
 
 use crate::plan_texts::target_names;
-use cargo_plans::{Plan, PlanWords, Unit};
+use cargo_plans::{Plan, PlanWords};
 use cargo_workspaces::{Package, Workspace};
 use feats_duplicate_lines::{
     Disagreement, Duplicates, MemberPlan, Shown, all_shown, disagreements_of, duplicate_lines,
@@ -26,7 +25,18 @@ use feats_duplicate_lines::{
 use feats_files::PlatformFile;
 use feats_words::Format;
 use plan_rows::platforms::HeldSpecs;
+use plan_whys::links::unit_links;
 use std::alloc::{AllocError, Global};
+
+/// How `duplicates` is asked.
+#[derive(Clone, Copy)]
+pub(crate) struct DuplicatesQuestion {
+    pub(crate) format: Format,
+    /// Whether the selected members are planned alone too.
+    pub(crate) alone: bool,
+    /// Whether packages with the same features in several places are shown.
+    pub(crate) places: bool,
+}
 
 /// Returns the text of `shown`.
 fn text_of(
@@ -78,20 +88,37 @@ fn text_of_joined(
     text_of_found(alloc, format, names, packages, found, &disagreements, plans)
 }
 
-/// Returns the text about the duplicates among `units`, beside `plans`.
-fn text_of_units(
+/// Returns the duplicates among the units of `plan`, beside `plans`. With `places` they have the packages with the same features in several
+/// places too.
+fn found_in<'u, 'w>(
     alloc: Global,
-    format: Format,
+    places: bool,
     names: &[&str],
-    workspace: &Workspace<'_>,
-    words: &PlanWords<'_, '_, HeldSpecs<'_>>,
-    units: &[Unit<'_>],
-    plans: &[MemberPlan<'_>],
-) -> Result<Vec<u8>, AllocError>
-    ensures { IfOk result (λ text. spec.IsTextOfUnits format (map (λ t. t.now) names.now) (workspace_text workspace.now) (words_text holds_on words.now) (map unit_text units.now) (map member_plan_text plans.now) text.items) }
+    workspace: &'w Workspace<'_>,
+    plan: &'u Plan<'w>,
+    plans: &'u [MemberPlan<'w>],
+) -> Result<Duplicates<'u, 'w>, AllocError>
+    ensures { IfOk result (λ found. spec.AreFound places (map (λ t. t.now) names.now) (workspace_text workspace.now) (plan_text plan.now) (map member_plan_text plans.now) (found_text found)) }
 {
-    let found = duplicates_of(alloc, workspace.packages(), names, units, plans)?;
-    let text = text_of_joined(alloc, format, names, workspace, words, &found, plans);
+    let links = unit_links(alloc, plan)?;
+    let packages = workspace.packages();
+    duplicates_of(alloc, packages, names, places, plan.units(), &links, plans)
+}
+
+/// Returns the text about the duplicates among the units of `plan`, beside `plans`.
+fn text_of_plan<'w>(
+    alloc: Global,
+    asked: DuplicatesQuestion,
+    names: &[&str],
+    workspace: &'w Workspace<'_>,
+    words: &PlanWords<'w, '_, HeldSpecs<'_>>,
+    plan: &Plan<'w>,
+    plans: &[MemberPlan<'w>],
+) -> Result<Vec<u8>, AllocError>
+    ensures { IfOk result (λ text. spec.IsTextOfPlan asked.entry.format asked.entry.places (map (λ t. t.now) names.now) (workspace_text workspace.now) (words_text holds_on words.now) (plan_text plan.now) (map member_plan_text plans.now) text.items) }
+{
+    let found = found_in(alloc, asked.places, names, workspace, plan, plans)?;
+    let text = text_of_joined(alloc, asked.format, names, workspace, words, &found, plans);
     drop(found);
     text
 }
@@ -130,24 +157,15 @@ fn plans_beside<'w>(
 /// differ if each selected member is selected alone.
 pub(crate) fn duplicates_text<'w>(
     alloc: Global,
-    format: Format,
-    alone: bool,
+    asked: DuplicatesQuestion,
     files: &[PlatformFile<'_>],
     workspace: &'w Workspace<'_>,
     words: &PlanWords<'w, '_, HeldSpecs<'_>>,
-    plan: &Plan<'_>,
+    plan: &Plan<'w>,
 ) -> Result<Vec<u8>, AllocError>
-    ensures { IfOk result (λ text. spec.IsDuplicatesText format alone (map file_text files.now) (workspace_text workspace.now) (words_text holds_on words.now) (plan_text plan.now) text.items) }
+    ensures { IfOk result (λ text. spec.IsDuplicatesText asked.entry.format asked.entry.alone asked.entry.places (map file_text files.now) (workspace_text workspace.now) (words_text holds_on words.now) (plan_text plan.now) text.items) }
 {
     let names = target_names(alloc, files)?;
-    let plans = plans_beside(alloc, alone, workspace, words)?;
-    text_of_units(
-        alloc,
-        format,
-        &names,
-        workspace,
-        words,
-        plan.units(),
-        &plans,
-    )
+    let plans = plans_beside(alloc, asked.alone, workspace, words)?;
+    text_of_plan(alloc, asked, &names, workspace, words, plan, &plans)
 }
