@@ -25,17 +25,13 @@ pub record IsTextOfFound (form : Format) (names : List Text) (w : WorkspaceText)
   pub are_disagreements : AreDisagreements w words names found.alone disagreements
   pub is_text : text ≡ duplicates_text form w.packages (all_shown names w.packages found disagreements plans)
 
--- The duplicates among the units of a plan, by the links between them, beside the plans of members alone. With `places` they have the packages
--- with the same features in several places too.
-pub record AreFound (places : Bool) (names : List Text) (w : WorkspaceText) (plan : PlanText) (plans : List MemberPlanText) (found : DuplicatesText) : Type 0 where
+-- The text about the duplicates of a plan, beside the plans of members alone. With `places` it is also about packages with the same features
+-- in several places.
+pub record IsTextOfPlan (form : Format) (places : Bool) (names : List Text) (w : WorkspaceText) (words : WordsText) (plan : PlanText) (plans : List MemberPlanText) (text : Text) : Type 0 where
   pub links : List (ℕ × ℕ)
   pub are_links : AreUnitLinks plan links
-  pub are_duplicates : AreDuplicates w.packages names places plan.units links plans found
-
--- The text about them.
-pub record IsTextOfPlan (form : Format) (places : Bool) (names : List Text) (w : WorkspaceText) (words : WordsText) (plan : PlanText) (plans : List MemberPlanText) (text : Text) : Type 0 where
   pub found : DuplicatesText
-  pub are_found : AreFound places names w plan plans found
+  pub are_found : AreDuplicates w.packages names places plan.units links plans found
   pub is_text : IsTextOfFound form names w words found plans text
 
 -- With `alone` the selected members are planned alone too, and otherwise no plans are beside that of the words.
@@ -43,7 +39,8 @@ abbrev pub ArePlansBeside : Bool → WorkspaceText → WordsText → List Member
 ArePlansBeside true w words plans = ArePlansAlone w words plans
 ArePlansBeside false w words plans = plans ≡ []
 
--- The text about the duplicates of a plan. With `alone` it is also about the plans of the selected members alone.
+-- The text about the duplicates of a plan. With `alone` it is also about the plans of the selected members alone, and with `places` about
+-- packages with the same features in several places.
 pub record IsDuplicatesText (form : Format) (alone places : Bool) (files : List FileText) (w : WorkspaceText) (words : WordsText) (plan : PlanText) (text : Text) : Type 0 where
   pub plans : List MemberPlanText
   pub are_plans : ArePlansBeside alone w words plans

@@ -98,7 +98,7 @@ fn list_answer(
     }
 }
 
-/// Returns the answer to `duplicates`. With `alone` it is also about the plans of the selected members alone.
+/// Returns the answer to `duplicates`.
 fn duplicates_answer<'w>(
     alloc: Global,
     asked: DuplicatesQuestion,
@@ -107,21 +107,9 @@ fn duplicates_answer<'w>(
     words: &PlanWords<'w, '_, HeldSpecs<'_>>,
     plan: &Plan<'w>,
 ) -> Result<Answer, AllocError>
-    ensures { IfOk result (λ answer. IsPositive (IsDuplicatesText asked.entry.format asked.entry.alone asked.entry.places (map file_text files.now) (workspace_text workspace.now) (words_text holds_on words.now) (plan_text plan.now)) (answer_text answer)) }
+    ensures { IfOk result (λ answer. IsPositive (IsDuplicatesText asked.format asked.alone asked.places (map file_text files.now) (workspace_text workspace.now) (words_text holds_on words.now) (plan_text plan.now)) (answer_text answer)) }
 {
     let text = duplicates_text(alloc, asked, files, workspace, words, plan)?;
-    Ok(positive(text))
-}
-
-/// Returns the answer to `list --unused`.
-fn unused_answer(
-    alloc: Global,
-    format: Format,
-    workspace: &Workspace<'_>,
-) -> Result<Answer, AllocError>
-    ensures { IfOk result (λ answer. IsPositive (IsUnusedText format (workspace_text workspace.now)) (answer_text answer)) }
-{
-    let text = unused_text(alloc, format, workspace)?;
     Ok(positive(text))
 }
 
@@ -233,14 +221,13 @@ pub fn answer_to<'w, 'n, 's>(
             let split = words.selection.split;
             list_answer(alloc, format, workspace, split, plan, word)
         }
-        Question::Unused => Ok(unused_answer(alloc, format, workspace)?),
         Question::Duplicates { alone, places } => {
-            let how = DuplicatesQuestion {
+            let asked = DuplicatesQuestion {
                 format,
                 alone,
                 places,
             };
-            Ok(duplicates_answer(alloc, how, files, workspace, words, plan)?)
+            Ok(duplicates_answer(alloc, asked, files, workspace, words, plan)?)
         }
         Question::Tree { invert } => {
             answer_to_edge_tree(alloc, asked, workspace, words, plan, invert)

@@ -28,13 +28,13 @@ use plan_rows::platforms::HeldSpecs;
 use plan_whys::links::unit_links;
 use std::alloc::{AllocError, Global};
 
-/// How `duplicates` is asked.
+/// What is asked about duplicates, and the form of the answer.
 #[derive(Clone, Copy)]
 pub(crate) struct DuplicatesQuestion {
     pub(crate) format: Format,
-    /// Whether the selected members are planned alone too.
+    /// Whether the question is also about the plans of the selected members alone.
     pub(crate) alone: bool,
-    /// Whether packages with the same features in several places are shown.
+    /// Whether it is also about packages with the same features in several places.
     pub(crate) places: bool,
 }
 
@@ -88,36 +88,28 @@ fn text_of_joined(
     text_of_found(alloc, format, names, packages, found, &disagreements, plans)
 }
 
-/// Returns the duplicates among the units of `plan`, beside `plans`. With `places` they have the packages with the same features in several
-/// places too.
-fn found_in<'u, 'w>(
-    alloc: Global,
-    places: bool,
-    names: &[&str],
-    workspace: &'w Workspace<'_>,
-    plan: &'u Plan<'w>,
-    plans: &'u [MemberPlan<'w>],
-) -> Result<Duplicates<'u, 'w>, AllocError>
-    ensures { IfOk result (λ found. spec.AreFound places (map (λ t. t.now) names.now) (workspace_text workspace.now) (plan_text plan.now) (map member_plan_text plans.now) (found_text found)) }
-{
-    let links = unit_links(alloc, plan)?;
-    let packages = workspace.packages();
-    duplicates_of(alloc, packages, names, places, plan.units(), &links, plans)
-}
-
-/// Returns the text about the duplicates among the units of `plan`, beside `plans`.
-fn text_of_plan<'w>(
+/// Returns the text about the duplicates of `plan`, beside `plans`.
+fn text_of_plan(
     alloc: Global,
     asked: DuplicatesQuestion,
     names: &[&str],
-    workspace: &'w Workspace<'_>,
-    words: &PlanWords<'w, '_, HeldSpecs<'_>>,
-    plan: &Plan<'w>,
-    plans: &[MemberPlan<'w>],
+    workspace: &Workspace<'_>,
+    words: &PlanWords<'_, '_, HeldSpecs<'_>>,
+    plan: &Plan<'_>,
+    plans: &[MemberPlan<'_>],
 ) -> Result<Vec<u8>, AllocError>
-    ensures { IfOk result (λ text. spec.IsTextOfPlan asked.entry.format asked.entry.places (map (λ t. t.now) names.now) (workspace_text workspace.now) (words_text holds_on words.now) (plan_text plan.now) (map member_plan_text plans.now) text.items) }
+    ensures { IfOk result (λ text. spec.IsTextOfPlan asked.format asked.places (map (λ t. t.now) names.now) (workspace_text workspace.now) (words_text holds_on words.now) (plan_text plan.now) (map member_plan_text plans.now) text.items) }
 {
-    let found = found_in(alloc, asked.places, names, workspace, plan, plans)?;
+    let links = unit_links(alloc, plan)?;
+    let found = duplicates_of(
+        alloc,
+        workspace.packages(),
+        names,
+        asked.places,
+        plan.units(),
+        &links,
+        plans,
+    )?;
     let text = text_of_joined(alloc, asked.format, names, workspace, words, &found, plans);
     drop(found);
     text
@@ -153,8 +145,7 @@ fn plans_beside<'w>(
     }
 }
 
-/// Returns the text about what `plan` builds several times, which is the plan of `words`. With `alone` it is also about the features that
-/// differ if each selected member is selected alone.
+/// Returns the text about what `plan` builds several times, which is the plan of `words`, as `asked` says.
 pub(crate) fn duplicates_text<'w>(
     alloc: Global,
     asked: DuplicatesQuestion,
@@ -163,7 +154,7 @@ pub(crate) fn duplicates_text<'w>(
     words: &PlanWords<'w, '_, HeldSpecs<'_>>,
     plan: &Plan<'w>,
 ) -> Result<Vec<u8>, AllocError>
-    ensures { IfOk result (λ text. spec.IsDuplicatesText asked.entry.format asked.entry.alone asked.entry.places (map file_text files.now) (workspace_text workspace.now) (words_text holds_on words.now) (plan_text plan.now) text.items) }
+    ensures { IfOk result (λ text. spec.IsDuplicatesText asked.format asked.alone asked.places (map file_text files.now) (workspace_text workspace.now) (words_text holds_on words.now) (plan_text plan.now) text.items) }
 {
     let names = target_names(alloc, files)?;
     let plans = plans_beside(alloc, asked.alone, workspace, words)?;

@@ -13,9 +13,9 @@ use Rattle.feats_duplicates.specs.Versions.{VersionText, VersionsText}
 use Rattle.feats_duplicates.specs.Disagreements.{DisagreementText, is_agreed}
 use Rattle.feats_duplicates.specs.Features.{is_from_default_registry, joined_features}
 
--- A line: one of several versions of a package, with the packages that depend on it; a package in one of several places, with its features there; a package for a place in
--- the plan of a member alone, with its features; its features in all these plans together, and whether the members agree once they have
--- got a line with these; a member without a plan, and why.
+-- A line: one of several versions of a package, and the packages that depend on it; a package in one of several places, with its features
+-- there; a package for a place in the plan of a member alone, with its features; its features in all these plans together, and whether the
+-- members agree once they have got a line with these; a member without a plan, and why.
 pub data ShownText : Type 0 where
   version : PackageText → List PackageText → ShownText
   in_place : PackageText → Text → List Text → ShownText
@@ -42,16 +42,13 @@ abbrev pub place_name : List Text → Place → Text
 place_name names place.Host = codes "host"
 place_name names (place.Target k) = unwrap_or (slice_get names k) []
 
--- The lines about the package with this number.
-abbrev pub about : List PackageText → (PackageText → List ShownText) → ℕ → List ShownText
-about packages lines p = option_map_or lines (slice_get packages p) []
+-- What is said about the package with this number.
+abbrev pub about : {X : Type 0} → List PackageText → (PackageText → List X) → ℕ → List X
+about packages said p = option_map_or said (slice_get packages p) []
 
--- The package with this number; none if there is no such package.
-abbrev pub package_at : List PackageText → ℕ → List PackageText
-package_at packages p = option_map_or (λ x. x ∷ []) (slice_get packages p) []
-
+-- The packages with these numbers.
 abbrev pub packages_at : List PackageText → List ℕ → List PackageText
-packages_at packages numbers = flat_map (package_at packages) numbers
+packages_at packages numbers = flat_map (about packages (λ x. x ∷ [])) numbers
 
 abbrev pub version_at : List PackageText → VersionText → List ShownText
 version_at packages v = about packages (λ x. version x (packages_at packages v.dependents) ∷ []) v.number

@@ -2,7 +2,7 @@
 #![tactic(auto)]
 
 mod alone;
-mod dependents;
+mod asked;
 mod gathered;
 mod listed;
 mod manifest_lines;

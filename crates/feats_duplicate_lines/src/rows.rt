@@ -9,7 +9,7 @@ ghost use Rattle.feats_duplicate_lines.specs.Lines as spec;
 ghost use Rattle.feats_duplicate_lines.specs.Shown as shown_spec;
 ghost use Rattle.feats_duplicate_lines.specs.Views.{shown_text};
 
-use crate::dependents::version_detail;
+use crate::asked::asked_by;
 use crate::manifest_lines::{joined_detail, push_features};
 use crate::shown::Shown;
 use cargo_workspaces::Package;
@@ -79,7 +79,7 @@ fn detail_of(
     ensures { (names : List Text) → HasRepeated repeated.now names → IfOk result (λ text. string_bytes text ≡ spec.detail_of names (shown_text shown.now)) }
 {
     match shown {
-        Shown::Version { dependents, .. } => version_detail(alloc, repeated, dependents),
+        Shown::Version { dependents, .. } => asked_by(alloc, repeated, dependents),
         Shown::InPlace {
             place,
             features,

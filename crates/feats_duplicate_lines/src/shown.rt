@@ -9,7 +9,7 @@ use std::alloc::AllocError;
 /// A line about a package that is built several times.
 #[derive(Drop)]
 pub enum Shown<'u, 'v, 'w> {
-    /// One of several packages of one name that are built, with the packages that depend on it.
+    /// One of several packages of one name that are built, and the other packages that depend on it.
     Version {
         package: &'u Package<'v>,
         dependents: Vec<&'u Package<'v>>,
