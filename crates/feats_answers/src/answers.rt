@@ -98,6 +98,18 @@ fn list_answer(
     }
 }
 
+/// Returns the answer to `list --unused`.
+fn unused_answer(
+    alloc: Global,
+    format: Format,
+    workspace: &Workspace<'_>,
+) -> Result<Answer, AllocError>
+    ensures { IfOk result (λ answer. IsPositive (IsUnusedText format (workspace_text workspace.now)) (answer_text answer)) }
+{
+    let text = unused_text(alloc, format, workspace)?;
+    Ok(positive(text))
+}
+
 /// Returns the answer to `duplicates`.
 fn duplicates_answer<'w>(
     alloc: Global,
@@ -221,13 +233,14 @@ pub fn answer_to<'w, 'n, 's>(
             let split = words.selection.split;
             list_answer(alloc, format, workspace, split, plan, word)
         }
+        Question::Unused => Ok(unused_answer(alloc, format, workspace)?),
         Question::Duplicates { alone, places } => {
-            let asked = DuplicatesQuestion {
+            let how = DuplicatesQuestion {
                 format,
                 alone,
                 places,
             };
-            Ok(duplicates_answer(alloc, asked, files, workspace, words, plan)?)
+            Ok(duplicates_answer(alloc, how, files, workspace, words, plan)?)
         }
         Question::Tree { invert } => {
             answer_to_edge_tree(alloc, asked, workspace, words, plan, invert)

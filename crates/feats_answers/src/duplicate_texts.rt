@@ -152,7 +152,7 @@ pub(crate) fn duplicates_text<'w>(
     files: &[PlatformFile<'_>],
     workspace: &'w Workspace<'_>,
     words: &PlanWords<'w, '_, HeldSpecs<'_>>,
-    plan: &Plan<'w>,
+    plan: &Plan<'_>,
 ) -> Result<Vec<u8>, AllocError>
     ensures { IfOk result (λ text. spec.IsDuplicatesText asked.format asked.alone asked.places (map file_text files.now) (workspace_text workspace.now) (words_text holds_on words.now) (plan_text plan.now) text.items) }
 {

@@ -5,7 +5,6 @@ ghost use Rattle.feats_duplicates.specs.Views.{member_plan_text, outcome_text, p
 ghost use Rattle.feats_duplicate_lines.specs.Shown as spec;
 ghost use Rattle.feats_duplicate_lines.specs.Views.{packages_text, shown_text};
 
-use crate::dependents::packages_at;
 use crate::place_names::place_name;
 use crate::shown::{Shown, package_at, push_shown};
 use cargo_workspaces::Package;
@@ -16,7 +15,7 @@ use std::alloc::{AllocError, Global};
 fn push_at<'u, 'v>(
     list: &mut Vec<&'u Package<'v>>,
     packages: &'u [Package<'v>],
-    version: &Version,
+    number: usize,
 ) -> Result<(), AllocError>
     ensures { OnOk result (packages_text list.new.items ≡ packages_text list.old.items ++ spec.about (map package_text packages.now) (λ x. x ∷ []) number) }
 {

@@ -5,7 +5,6 @@ ghost use Rattle.feats_lines.specs.parts.Members.{Appends};
 ghost use Rattle.feats_duplicate_lines.specs.Objects as spec;
 ghost use Rattle.feats_duplicate_lines.specs.Views.{packages_text, shown_text};
 
-use crate::dependents::ids_of;
 use crate::manifest_lines::manifest_line;
 use crate::rows::{kind_of, package_of};
 use crate::shown::Shown;
@@ -22,18 +21,6 @@ fn write_head(writer: &mut Writer, kind: &str, package: &Package<'_>) -> Result<
     write_member(writer, "package", package.id)?;
     write_member(writer, "name", package.name)?;
     write_member(writer, "version", package.version)
-}
-
-/// Writes the ids of the packages that depend on a version.
-fn write_dependents(
-    alloc: Global,
-    writer: &mut Writer,
-    dependents: &[&Package<'_>],
-) -> Result<(), AllocError>
-    ensures { OnOk result (Appends writer.old writer.new (spec.version_members (package_texts dependents.now))) }
-{
-    let ids = ids_of(alloc, dependents)?;
-    write_texts(writer, "dependents", &ids)
 }
 
 /// Writes the place and the features.

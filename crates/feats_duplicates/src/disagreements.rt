@@ -155,7 +155,7 @@ fn disagreements_in(
     ensures { IfOk result (λ found. map disagreement_text found.items
         ≡ spec.disagreements (map package_text packages.now) (texts names.now) (map member_plan_text plans.now) (map alone_text list.now)) }
 {
-    let after = duplicates_of(alloc, packages, names, &[], plans)?;
+    let after = duplicates_of(alloc, packages, names, false, &[], &[], plans)?;
     let found = disagreements_among(alloc, &after.alone, plans, list);
     drop(after);
     found
