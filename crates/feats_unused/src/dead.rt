@@ -107,7 +107,11 @@ fn reached_weakly<'w>(
 {
     let mut names = Vec::new(alloc);
     for declaration in declarations {
-        push_if(&mut names, declaration.name, is_reached_weakly(on, declaration))?;
+        push_if(
+            &mut names,
+            declaration.name,
+            is_reached_weakly(on, declaration),
+        )?;
     }
     Ok(names)
 }

@@ -13,8 +13,9 @@ returns c =
     let old = map shown_text c.args.shown.now.items in
     let names = texts c.in_ok-unused.unused.items in
     on_ok c.push_dead.result c.push_dead.ensures (λ grown. (
-    flat_map (unused_line x) names ++ dead_lines x,
-    grown
-    ∙ ap (λ (z : List ShownText). z ++ dead_lines x) (c.in_ok-push_each_unused.ensures ∙ ap (λ (z : List (Bor Text)). old ++ flat_map (unused_line x) (texts z)) c.deref.ensures.value)
-    ∙ append_assoc old (flat_map (unused_line x) names) (dead_lines x),
-    record { names = names; are_unused = c.in_ok-unused.ensures; are_lines = refl }))
+      flat_map (unused_line x) names ++ dead_lines x,
+      grown
+          ∙ ap (λ (z : List ShownText). z ++ dead_lines x) (c.in_ok-push_each_unused.ensures ∙ ap (λ (z : List (Bor Text)). old ++ flat_map (unused_line x) (texts z)) c.deref.ensures.value)
+          ∙ append_assoc old (flat_map (unused_line x) names) (dead_lines x),
+      record { names = names; are_unused = c.in_ok-unused.ensures; are_lines = refl },
+    ))
