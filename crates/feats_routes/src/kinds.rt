@@ -97,7 +97,9 @@ fn is_on(split: bool, plan: &Plan<'_>, from: &Unit<'_>, declaration: &Declaratio
     ensures { result ≡ spec.is_required_or_on split (plan_text plan.now) (unit_text from.now) (declaration_text declaration.now) }
 {
     !declaration.optional
-        || plan.on().is_on(side_at(split, from.place), from.package, declaration.name)
+        || plan
+            .on()
+            .is_on(side_at(split, from.place), from.package, declaration.name)
 }
 
 /// Returns whether `kind` is the kind for builds, if `build`, or else the normal one.
@@ -183,11 +185,7 @@ fn kind_between<P: Platform>(shown: &Shown<'_, '_, '_, P>, from: &Unit<'_>, to: 
 }
 
 /// Returns the kind by which the unit with number `from` depends on the one with number `to`.
-pub(crate) fn kind_of<P: Platform>(
-    shown: &Shown<'_, '_, '_, P>,
-    from: usize,
-    to: usize,
-) -> Kind
+pub(crate) fn kind_of<P: Platform>(shown: &Shown<'_, '_, '_, P>, from: usize, to: usize) -> Kind
     ensures { result ≡ spec.kind_of (shown_text P.holds shown.now) from to }
 {
     let units = shown.plan.units();
