@@ -1,2 +1,2 @@
 pub mod Loops
-pub mod Shown
+pub mod PlanRoutes

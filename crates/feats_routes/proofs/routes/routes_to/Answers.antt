@@ -3,7 +3,7 @@ use Rattle.cargo_plans.specs.plan_steps.PlanViews.{plan_text}
 use Rattle.cargo_plans.specs.plan_units.Units.{UnitText}
 use Rattle.feats_tree.specs.packages.Trees.{units_of}
 use Rattle.plan_whys.specs.links.UnitLinks.{AreUnitLinks}
-use Rattle.feats_routes.proofs.Shown.{routes_of}
+use Rattle.feats_routes.proofs.PlanRoutes.{routes_of}
 use Rattle.feats_routes.proofs.routes.routes_to.Goals as goal
 
 pub returns : goal.returns

@@ -16,6 +16,7 @@ use Rattle.plan_whys.specs.links.UnitLinks.{AreUnitLinks, root_units}
 use Rattle.shortest_routes.specs.Routes.{AreShortestRoutes, RouteText, route_text}
 use Rattle.shortest_routes.specs.declared.routes.Route.{Route}
 use Rattle.feats_routes.specs.Routes.{AreRoutesTo, IsRoutesText, text_of}
+use Rattle.feats_routes.specs.Shown.{ShownText}
 
 -- the shortest routes over the links of a plan
 pub routes_of : {E : Type 0} (r : Result (Vec Route) E) (plan : PlanText) (p : ℕ) (links : List (ℕ × ℕ)) (targets owners starts : List ℕ)
@@ -41,13 +42,17 @@ titles_shown names first second packages us vs units titles details shown made t
     ∙ (λ i. titles_with (map (unit_title names (first_are i)) (us_are i)) (map (unit_detail names (second_are i)) (vs_are i)))
 
 -- the text of these routes
-pub text_shown : {E : Type 0} (r : Result (Vec ℕ) E) (form : Format) (names : List Text) (w : WorkspaceText) (words : WordsText) (plan : PlanText) (p : ℕ) (routes : List RouteText)
-    (settings : SettingsText) (packages : List PackageText) (titles : List TitleText) → AreRoutesTo plan p routes → settings ≡ settings_of words → packages ≡ w.packages → titles ≡ unit_titles names w.packages plan.units
-    → IfOk r (λ text. text.items ≡ text_of form (record { settings = settings; packages = packages; plan = plan; titles = titles }) routes)
-    → IfOk r (λ text. IsRoutesText form names w words plan p text.items)
-text_shown r form names w words plan p routes settings packages titles are settings_are packages_are titles_are is =
+pub text_shown : {E : Type 0} (r : Result (Vec ℕ) E) (form : Format) (names : List Text) (w : WorkspaceText) (words : WordsText) (plan : PlanText) (p : ℕ) (routes given : List RouteText)
+    (s : ShownText) (settings : SettingsText) (packages : List PackageText) (titles : List TitleText) → AreRoutesTo plan p routes → given ≡ routes
+    → s ≡ record { settings = settings; packages = packages; plan = plan; titles = titles }
+    → settings ≡ settings_of words → packages ≡ w.packages → titles ≡ unit_titles names w.packages plan.units
+    → IfOk r (λ text. text.items ≡ text_of form s given) → IfOk r (λ text. IsRoutesText form names w words plan p text.items)
+text_shown r form names w words plan p routes given s settings packages titles are same shown_is settings_are packages_are titles_are is =
     IfOk-weaker r _ _ (λ text h. record {
       routes = routes;
       are_routes = are;
-      is_text = h ∙ (λ i. text_of form (record { settings = settings_are i; packages = packages_are i; plan = plan; titles = titles_are i }) routes);
+      is_text =
+          h
+          ∙ (λ i. text_of form (shown_is i) (same i))
+          ∙ (λ i. text_of form (record { settings = settings_are i; packages = packages_are i; plan = plan; titles = titles_are i }) routes);
     }) is
