@@ -1,5 +1,5 @@
 -- The names that have several numbers, by the entries of a map.
-use Rattle.std.proofs.Common.{◌≡◌, ◌∙◌, sym, ap, refl, ℕ, ◌<◌, List, [], ◌∷◌, ◌++◌, map, length, append_assoc, lt-ltb, Bool, true, false, cond, nat_lt, Option, Some, None, filter}
+use Rattle.std.proofs.Common.{◌≡◌, ◌∙◌, sym, ap, refl, ℕ, List, [], ◌∷◌, ◌++◌, map, length, append_assoc, Bool, true, false, cond, nat_lt, Option, Some, None, filter}
 use Rattle.std.specs.Prelude.{◌||◌}
 use Rattle.std.specs.Borrow.{Bor}
 use Rattle.std.specs.BTreeMap.{BTreeMap, IsOrdered, is_at}
@@ -123,12 +123,12 @@ are_versions m packages units links list has ordered is = record {
 }
 
 -- one more entry that is kept
-pub several_more : (f : ℕ → VersionText) (left rest : List Entry) (e : Entry) (versions : List VersionText) (all so_far new : List VersionsText) → left ≡ e ∷ rest → 1 < length e.1.items
+pub several_more : (f : ℕ → VersionText) (left rest : List Entry) (e : Entry) (versions : List VersionText) (all so_far new : List VersionsText) → left ≡ e ∷ rest → has_more e ≡ true
     → all ≡ so_far ++ map (entry_text f) (filter has_more left) → versions ≡ map f e.1.items → new ≡ so_far ++ record { name = e.0.now; versions = versions } ∷ []
     → all ≡ new ++ map (entry_text f) (filter has_more rest)
 several_more f left rest e versions all so_far new is several so are grown =
     let kept : List VersionsText = map (entry_text f) (filter has_more rest) in
     so ∙ ap (λ es. so_far ++ map (entry_text f) (filter has_more es)) is
-    ∙ ap (λ b. so_far ++ map (entry_text f) (cond b (e ∷ filter has_more rest) (filter has_more rest))) (lt-ltb 1 (length e.1.items) several)
+    ∙ ap (λ b. so_far ++ map (entry_text f) (cond b (e ∷ filter has_more rest) (filter has_more rest))) several
     ∙ sym (append_assoc so_far (entry_text f e ∷ []) kept)
     ∙ ap (λ z. z ++ kept) (sym (grown ∙ ap (λ vs. so_far ++ record { name = e.0.now; versions = vs } ∷ []) are))

@@ -1,5 +1,5 @@
 //! Packages of one name, several of which are built.
-ghost use Rattle.std.specs.Prelude.{◌≡◌, ℕ, List, IfOk, length, map, filter};
+ghost use Rattle.std.specs.Prelude.{◌≡◌, ℕ, List, IfOk, length, map, filter, nat_lt};
 ghost use Rattle.std.specs.BTreeMap.{IsOrdered};
 ghost use Rattle.cargo_workspaces.specs.Workspaces.{PackageText};
 ghost use Rattle.cargo_workspaces.specs.Views.{package_text};
@@ -91,6 +91,13 @@ fn versions_at(
     Ok(list)
 }
 
+/// Returns whether there are several numbers.
+fn are_several(numbers: &[usize]) -> bool
+    ensures { result ≡ nat_lt 1 (length numbers.now) }
+{
+    numbers.len() > 1
+}
+
 /// Returns the names in `names` that have several numbers, with the packages with these numbers and their dependents in `dependents`.
 fn with_several<'w>(
     alloc: Global,
@@ -102,7 +109,7 @@ fn with_several<'w>(
 {
     let mut list = Vec::new(alloc);
     for (name, numbers) in names {
-        if numbers.len() > 1 {
+        if are_several(numbers) {
             list.push(Versions {
                 name: *name,
                 versions: versions_at(alloc, dependents, numbers)?,
