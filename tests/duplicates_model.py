@@ -1,12 +1,14 @@
 #!/usr/bin/env python3
 """A reference model of what `feats duplicates` prints, in text and JSON. It is written to be read.
 
-    duplicates_model.py [--alone] --metadata FILE|- --host TRIPLE=CFG-FILE [--target TRIPLE=CFG-FILE]... [--format json] SELECTION...
+    duplicates_model.py [--alone] [--places] --metadata FILE|- --host TRIPLE=CFG-FILE [--target TRIPLE=CFG-FILE]... [--format json] SELECTION...
 
 A line is about one package:
 
-versions    several packages of this one's name are built; by names, and then by ids.
-places      the package is built with different features in different places; one line for each place.
+versions    several packages of this one's name are built; by names, and then by ids. It says which other packages depend on it in the build:
+            there is a link of link_model.py from one of their units to one of its units. Only selected packages have no dependents.
+places      the package is built with different features in different places; one line for each place. With --places also a package that is
+            built in several places with the same features.
 
 With --alone there are more lines:
 
@@ -26,6 +28,7 @@ sys.dont_write_bytecode = True
 
 import plan_model
 from answer_model import objects_of, table_of
+from link_model import unit_links
 from plan_model import HOST, Declaration, Plan, Refused
 
 CRATES_IO = 'registry+https://github.com/rust-lang/crates.io-index'
@@ -54,17 +57,18 @@ def differ(lists):
 
 def version_lines(plan):
     ids = {id for _, id in plan.built}
+    links = {(start[1], end[1]) for start, end in unit_links(plan)}
     for name in by_bytes({plan.packages[id].name for id in ids}):
         those = by_bytes(id for id in ids if plan.packages[id].name == name)
         if len(those) > 1:
-            yield from (('versions', id, {}) for id in those)
+            yield from (('versions', id, {'dependents': by_bytes(it for it in ids if it != id and (it, id) in links)}) for id in those)
 
 
-def place_lines(plan):
+def place_lines(plan, is_all):
     places = places_of(plan.selection)
     for id in by_bytes(plan.packages):
         built = [(name, features_at(plan, place, id)) for place, name in places if (place, id) in plan.built]
-        if differ([features for _, features in built]):
+        if differ([features for _, features in built]) or is_all and len(built) > 1:
             yield from (('places', id, {'place': name, 'features': features}) for name, features in built)
 
 
@@ -129,9 +133,9 @@ def plans_alone(plan, document):
     return plans, refused
 
 
-def lines_of(plan, is_alone=False):
+def lines_of(plan, is_alone=False, is_all=False):
     plans, refused = plans_alone(plan, plan.document) if is_alone else ({}, [])
-    return [*version_lines(plan), *place_lines(plan), *alone_lines(plan, plans, places_of(plan.selection)),
+    return [*version_lines(plan), *place_lines(plan, is_all), *alone_lines(plan, plans, places_of(plan.selection)),
             *(('refused', member, {'message': '...'}) for member in refused)]
 
 
@@ -141,7 +145,13 @@ def with_features(text, features):
     return f'{text}: {" ".join(features)}' if features else f'{text} without features'
 
 
+def asked_by(plan, ids):
+    return f'asked by {", ".join(plan.label(plan.packages[it]) for it in ids)}' if ids else 'selected'
+
+
 def detail_of(plan, kind, said):
+    if kind == 'versions':
+        return asked_by(plan, said['dependents'])
     if kind == 'places':
         return with_features(said['place'], said['features'])
     if kind == 'alone':
@@ -163,8 +173,7 @@ def objects_text_of(plan, lines):
 
 
 def main():
-    is_alone = sys.argv[1:2] == ['--alone']
-    argv = sys.argv[2:] if is_alone else sys.argv[1:]
+    argv = [it for it in sys.argv[1:] if it not in ('--alone', '--places')]
     is_json = argv[-2:] == ['--format', 'json']
     words = plan_model.words_of(argv[:-2] if is_json else argv)
     with open(0 if words.metadata == '-' else words.metadata, encoding='utf-8') as it:
@@ -173,7 +182,7 @@ def main():
         plan = Plan(document, plan_model.selection_of(words))
     except Refused as refused:
         sys.exit(str(refused))
-    sys.stdout.write((objects_text_of if is_json else text_of)(plan, lines_of(plan, is_alone)))
+    sys.stdout.write((objects_text_of if is_json else text_of)(plan, lines_of(plan, '--alone' in sys.argv, '--places' in sys.argv)))
     return 0
 
 

@@ -34,7 +34,7 @@ use std::process::ExitCode;
 use std::{env, io};
 
 /// The answer to `--version`. `./build` and the launchers replace the text in parentheses, if it isn't true of their program.
-const VERSION: &str = "feats 0.13.0 (proved, rattle-kit-13f logic dac8208d650f15bf)\n";
+const VERSION: &str = "feats 0.14.0 (proved, rattle-kit-13f logic dac8208d650f15bf)\n";
 
 /// Opens the file at `path`.
 fn opened(rt: &HostRuntime, path: &str) -> Result<FromReader<File>, Fault>

@@ -9,11 +9,13 @@ use Rattle.feats_policies.specs.Rules.{RuleText}
 use Rattle.feats_policies.specs.Views.{rule_text}
 use Rattle.feats_answers.specs.declared.asked.Asked.{Asked}
 
--- The arguments of the command, the rules of the policy, the files of the target platforms, and the bytes of the members' manifests.
+-- The arguments of the command, the rules of the policy, the files of the target platforms, and the bytes of the document
+-- and of the members' manifests.
 pub record AskedText : Type 0 where
   pub arguments : ArgumentsText
   pub rules : List RuleText
   pub targets : List FileText
+  pub document : Text
   pub member_manifests : Text
 
 abbrev pub asked_text : Asked → AskedText
@@ -21,5 +23,6 @@ asked_text a = record {
   arguments = arguments_text a.arguments.now;
   rules = map rule_text a.rules.now;
   targets = map file_text a.targets.now;
+  document = a.document.now;
   member_manifests = a.member_manifests.now;
 }

@@ -13,9 +13,12 @@ pub mod Parts
 pub mod PlanTexts
 pub mod PolicyTexts
 pub mod ReportTexts
+pub mod RouteTexts
 pub mod SlimTexts
 pub mod SpecTexts
+pub mod SummaryTexts
 pub mod TreeTexts
+pub mod UnusedTexts
 pub mod WhyNotTexts
 pub mod WhyParts
 pub mod WhyTexts

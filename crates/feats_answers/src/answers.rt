@@ -21,13 +21,14 @@ ghost use Rattle.feats_answers.specs.PlanTexts.{text_of_units};
 ghost use Rattle.feats_answers.specs.ReportTexts.{IsReportText};
 ghost use Rattle.feats_answers.specs.SlimTexts.{IsNoSlim, IsSlimBy};
 ghost use Rattle.feats_answers.specs.SpecTexts.{IsSpecText, places};
+ghost use Rattle.feats_answers.specs.UnusedTexts.{IsUnusedText};
 ghost use Rattle.feats_answers.specs.WhyNotTexts.{IsWhyNotAnswer};
 ghost use Rattle.feats_answers.specs.WhyParts.{IsWhyRefusal};
 ghost use Rattle.feats_answers.specs.WhyTexts.{IsWhyAnswer};
 
 use crate::answer::{Answer, positive};
 use crate::asked::Asked;
-use crate::duplicate_texts::duplicates_text;
+use crate::duplicate_texts::{DuplicatesQuestion, duplicates_text};
 use crate::edge_texts::{answer_to_edge_dot, answer_to_edge_tree};
 use crate::gathered::gathered;
 use crate::list_texts::list_text;
@@ -36,8 +37,11 @@ use crate::parts::parts_of;
 use crate::plan_texts::text_of_units;
 use crate::policy_texts::{PolicyWord, check_answer};
 use crate::report_texts::report_of;
+use crate::route_texts::routes_answer;
 use crate::slim_texts::slim_text;
 use crate::spec_texts::spec_text;
+use crate::summary_texts::summary_answer;
+use crate::unused_texts::unused_text;
 use crate::why_parts::why_parts_of;
 use crate::why_texts::{WhyQuestion, why_answer_of};
 use cargo_plans::{Plan, PlanWords};
@@ -94,19 +98,30 @@ fn list_answer(
     }
 }
 
-/// Returns the answer to `duplicates`. With `alone` it is also about the plans of the selected members alone.
-fn duplicates_answer<'w>(
+/// Returns the answer to `list --unused`.
+fn unused_answer(
     alloc: Global,
     format: Format,
-    alone: bool,
+    workspace: &Workspace<'_>,
+) -> Result<Answer, AllocError>
+    ensures { IfOk result (λ answer. IsPositive (IsUnusedText format (workspace_text workspace.now)) (answer_text answer)) }
+{
+    let text = unused_text(alloc, format, workspace)?;
+    Ok(positive(text))
+}
+
+/// Returns the answer to `duplicates`.
+fn duplicates_answer<'w>(
+    alloc: Global,
+    asked: DuplicatesQuestion,
     files: &[PlatformFile<'_>],
     workspace: &'w Workspace<'_>,
     words: &PlanWords<'w, '_, HeldSpecs<'_>>,
-    plan: &Plan<'_>,
+    plan: &Plan<'w>,
 ) -> Result<Answer, AllocError>
-    ensures { IfOk result (λ answer. IsPositive (IsDuplicatesText format alone (map file_text files.now) (workspace_text workspace.now) (words_text holds_on words.now) (plan_text plan.now)) (answer_text answer)) }
+    ensures { IfOk result (λ answer. IsPositive (IsDuplicatesText asked.format asked.alone asked.places (map file_text files.now) (workspace_text workspace.now) (words_text holds_on words.now) (plan_text plan.now)) (answer_text answer)) }
 {
-    let text = duplicates_text(alloc, format, alone, files, workspace, words, plan)?;
+    let text = duplicates_text(alloc, asked, files, workspace, words, plan)?;
     Ok(positive(text))
 }
 
@@ -208,8 +223,8 @@ pub fn answer_to<'w, 'n, 's>(
         Question::Why { feature, all } => {
             why_answer(alloc, format, all, workspace, words, plan, feature)
         }
-        Question::Summary => Ok(plan_answer(alloc, format, files, workspace, plan)?),
-        Question::Routes(word) => why_answer(alloc, format, false, workspace, words, plan, word),
+        Question::Summary => summary_answer(alloc, asked.document, workspace, words, plan),
+        Question::Routes(word) => routes_answer(alloc, format, files, workspace, words, plan, word),
         Question::WhyNot(word) => {
             why_not_answer(alloc, format, workspace, specs, words, plan, word)
         }
@@ -218,9 +233,15 @@ pub fn answer_to<'w, 'n, 's>(
             let split = words.selection.split;
             list_answer(alloc, format, workspace, split, plan, word)
         }
-        Question::Duplicates { alone } => Ok(duplicates_answer(
-            alloc, format, alone, files, workspace, words, plan,
-        )?),
+        Question::Unused => Ok(unused_answer(alloc, format, workspace)?),
+        Question::Duplicates { alone, places } => {
+            let how = DuplicatesQuestion {
+                format,
+                alone,
+                places,
+            };
+            Ok(duplicates_answer(alloc, how, files, workspace, words, plan)?)
+        }
         Question::Tree { invert } => {
             answer_to_edge_tree(alloc, asked, workspace, words, plan, invert)
         }
@@ -235,14 +256,8 @@ pub fn answer_to<'w, 'n, 's>(
             check_answer(alloc, asked, policy, workspace, specs, words, plan)
         }
         Question::Slim { manifests: _file } => {
-            slim_answer(
-                alloc,
-                format,
-                asked.member_manifests,
-                workspace,
-                words,
-                plan,
-            )
+            let manifests = asked.member_manifests;
+            slim_answer(alloc, format, manifests, workspace, words, plan)
         }
     }
 }

@@ -4,7 +4,7 @@ use feats_files::PlatformFile;
 use feats_policies::Rule;
 use feats_words::CommandArguments;
 
-/// A question about a build: the arguments, the rules of a policy, the files of platforms and the manifests of members.
+/// A question about a build: the arguments, the rules of a policy, the files of platforms, the document and the manifests of members.
 #[derive(Clone, Copy)]
 pub struct Asked<'a, 'w, 'p, 'n> {
     pub arguments: &'a CommandArguments<'w>,
@@ -12,6 +12,8 @@ pub struct Asked<'a, 'w, 'p, 'n> {
     pub rules: &'a [Rule<'p>],
     /// The files of the target platforms. Empty if the arguments name none.
     pub targets: &'a [PlatformFile<'n>],
+    /// The bytes of the document.
+    pub document: &'a [u8],
     /// The manifests of `slim`, each ended by a NUL byte. Empty without such a file.
     pub member_manifests: &'a [u8],
 }

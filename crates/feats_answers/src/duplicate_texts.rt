@@ -12,12 +12,11 @@ ghost use Rattle.feats_duplicate_lines.specs.feats_duplicates.Views.{member_plan
 ghost use Rattle.feats_duplicate_lines.specs.feats_duplicates.DisagreementViews.{disagreement_text};
 ghost use Rattle.plan_rows.specs.platforms.HeldSpecs.{holds_on};
 ghost use Rattle.cargo_plans.specs.plan_steps.PlanViews.{plan_text};
-ghost use Rattle.cargo_plans.specs.plan_units.UnitViews.{unit_text};
 ghost use Rattle.feats_answers.specs.DuplicateTexts as spec;
 ghost use Rattle.feats_answers.specs.PlanTexts as names;
 
 use crate::plan_texts::target_names;
-use cargo_plans::{Plan, PlanWords, Unit};
+use cargo_plans::{Plan, PlanWords};
 use cargo_workspaces::{Package, Workspace};
 use feats_duplicate_lines::{
     Disagreement, Duplicates, MemberPlan, Shown, all_shown, disagreements_of, duplicate_lines,
@@ -26,7 +25,18 @@ use feats_duplicate_lines::{
 use feats_files::PlatformFile;
 use feats_words::Format;
 use plan_rows::platforms::HeldSpecs;
+use plan_whys::links::unit_links;
 use std::alloc::{AllocError, Global};
+
+/// What is asked about duplicates, and the form of the answer.
+#[derive(Clone, Copy)]
+pub(crate) struct DuplicatesQuestion {
+    pub(crate) format: Format,
+    /// Whether the question is also about the plans of the selected members alone.
+    pub(crate) alone: bool,
+    /// Whether it is also about packages with the same features in several places.
+    pub(crate) places: bool,
+}
 
 /// Returns the text of `shown`.
 fn text_of(
@@ -78,20 +88,29 @@ fn text_of_joined(
     text_of_found(alloc, format, names, packages, found, &disagreements, plans)
 }
 
-/// Returns the text about the duplicates among `units`, beside `plans`.
-fn text_of_units(
+/// Returns the text about the duplicates of `plan`, beside `plans`.
+fn text_of_plan(
     alloc: Global,
-    format: Format,
+    asked: DuplicatesQuestion,
     names: &[&str],
     workspace: &Workspace<'_>,
     words: &PlanWords<'_, '_, HeldSpecs<'_>>,
-    units: &[Unit<'_>],
+    plan: &Plan<'_>,
     plans: &[MemberPlan<'_>],
 ) -> Result<Vec<u8>, AllocError>
-    ensures { IfOk result (λ text. spec.IsTextOfUnits format (map (λ t. t.now) names.now) (workspace_text workspace.now) (words_text holds_on words.now) (map unit_text units.now) (map member_plan_text plans.now) text.items) }
+    ensures { IfOk result (λ text. spec.IsTextOfPlan asked.format asked.places (map (λ t. t.now) names.now) (workspace_text workspace.now) (words_text holds_on words.now) (plan_text plan.now) (map member_plan_text plans.now) text.items) }
 {
-    let found = duplicates_of(alloc, workspace.packages(), names, units, plans)?;
-    let text = text_of_joined(alloc, format, names, workspace, words, &found, plans);
+    let links = unit_links(alloc, plan)?;
+    let found = duplicates_of(
+        alloc,
+        workspace.packages(),
+        names,
+        asked.places,
+        plan.units(),
+        &links,
+        plans,
+    )?;
+    let text = text_of_joined(alloc, asked.format, names, workspace, words, &found, plans);
     drop(found);
     text
 }
@@ -126,28 +145,18 @@ fn plans_beside<'w>(
     }
 }
 
-/// Returns the text about what `plan` builds several times, which is the plan of `words`. With `alone` it is also about the features that
-/// differ if each selected member is selected alone.
+/// Returns the text about what `plan` builds several times, which is the plan of `words`, as `asked` says.
 pub(crate) fn duplicates_text<'w>(
     alloc: Global,
-    format: Format,
-    alone: bool,
+    asked: DuplicatesQuestion,
     files: &[PlatformFile<'_>],
     workspace: &'w Workspace<'_>,
     words: &PlanWords<'w, '_, HeldSpecs<'_>>,
     plan: &Plan<'_>,
 ) -> Result<Vec<u8>, AllocError>
-    ensures { IfOk result (λ text. spec.IsDuplicatesText format alone (map file_text files.now) (workspace_text workspace.now) (words_text holds_on words.now) (plan_text plan.now) text.items) }
+    ensures { IfOk result (λ text. spec.IsDuplicatesText asked.format asked.alone asked.places (map file_text files.now) (workspace_text workspace.now) (words_text holds_on words.now) (plan_text plan.now) text.items) }
 {
     let names = target_names(alloc, files)?;
-    let plans = plans_beside(alloc, alone, workspace, words)?;
-    text_of_units(
-        alloc,
-        format,
-        &names,
-        workspace,
-        words,
-        plan.units(),
-        &plans,
-    )
+    let plans = plans_beside(alloc, asked.alone, workspace, words)?;
+    text_of_plan(alloc, asked, &names, workspace, words, plan, &plans)
 }

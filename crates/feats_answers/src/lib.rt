@@ -17,9 +17,12 @@ mod places;
 mod plan_texts;
 mod policy_texts;
 mod report_texts;
+mod route_texts;
 mod slim_texts;
 mod spec_texts;
+mod summary_texts;
 mod tree_texts;
+mod unused_texts;
 mod why_parts;
 mod why_texts;
 

@@ -66,7 +66,7 @@ fn unbuilt(alloc: Global, format: Format, word: &str) -> Result<Answer, AllocErr
 }
 
 /// Returns the answer with `trees`. If they are empty, it says that what `word` names isn't built.
-fn answer_of_trees(
+pub(crate) fn answer_of_trees(
     alloc: Global,
     format: Format,
     word: &str,

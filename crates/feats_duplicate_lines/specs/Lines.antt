@@ -40,9 +40,18 @@ place_detail place features = place ++ feature_list features
 abbrev pub member_detail : Text → Text → List Text → Text
 member_detail place label features = place ++ (codes " with " ++ (label ++ (codes " alone" ++ feature_list features)))
 
+-- The label of a package, after a comma.
+abbrev pub label_more : List Text → PackageText → Text
+label_more names p = codes ", " ++ label_of names p
+
+-- By which packages a package is asked for. One for which no package asks is selected.
+abbrev pub asked_by : List Text → List PackageText → Text
+asked_by names [] = codes "selected"
+asked_by names (first ∷ more) = codes "asked by " ++ (label_of names first ++ flat_map (label_more names) more)
+
 -- What a line says of its package.
 abbrev pub detail_of : List Text → ShownText → Text
-detail_of names (version p) = []
+detail_of names (version p dependents) = asked_by names dependents
 detail_of names (in_place p place features) = place_detail place features
 detail_of names (alone p place member features) = member_detail place (label_of names member) features
 detail_of names (joined p place features agrees) = joined_detail p features agrees

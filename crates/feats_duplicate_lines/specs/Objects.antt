@@ -1,5 +1,5 @@
 -- The lines as JSON objects.
-use Rattle.std.specs.Prelude.{Bool, List, [], ◌∷◌, ◌++◌, flat_map, codes}
+use Rattle.std.specs.Prelude.{Bool, List, [], ◌∷◌, ◌++◌, flat_map, map, codes}
 use Rattle.json.specs.Token.{Token, begin_object}
 use Rattle.cargo_workspaces.specs.Workspaces.{Text, PackageText}
 use Rattle.feats_lines.specs.parts.Members.{flag_member, object_line, text_member, texts_member}
@@ -18,9 +18,13 @@ alone_members member place features = text_member (codes "member") member.id ++ 
 abbrev pub joined_members : PackageText → Text → List Text → Bool → List Token
 joined_members p place features agrees = place_members place features ++ (text_member (codes "line") (manifest_line p features) ++ flag_member (codes "agrees") agrees)
 
+-- The ids of the packages that depend on one of several versions.
+abbrev pub version_members : List PackageText → List Token
+version_members dependents = texts_member (codes "dependents") (map (λ d. d.id) dependents)
+
 -- What a line says of its package.
 abbrev pub detail : ShownText → List Token
-detail (version p) = []
+detail (version p dependents) = version_members dependents
 detail (in_place p place features) = place_members place features
 detail (alone p place member features) = alone_members member place features
 detail (joined p place features agrees) = joined_members p place features agrees

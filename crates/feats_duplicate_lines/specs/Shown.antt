@@ -9,29 +9,29 @@ use Rattle.feats_duplicates.specs.Built.{PlacedText}
 use Rattle.feats_duplicates.specs.Duplicates.{DuplicatesText}
 use Rattle.feats_duplicates.specs.MemberPlans.{MemberPlanText, OutcomeText, built, not_planned}
 use Rattle.feats_duplicates.specs.Places.{PlacesText}
-use Rattle.feats_duplicates.specs.Versions.{VersionsText}
+use Rattle.feats_duplicates.specs.Versions.{VersionText, VersionsText}
 use Rattle.feats_duplicates.specs.Disagreements.{DisagreementText, is_agreed}
 use Rattle.feats_duplicates.specs.Features.{is_from_default_registry, joined_features}
 
--- A line: one of several versions of a package; a package in one of several places, with its features there; a package for a place in
--- the plan of a member alone, with its features; its features in all these plans together, and whether the members agree once they have
--- got a line with these; a member without a plan, and why.
+-- A line: one of several versions of a package, and the packages that depend on it; a package in one of several places, with its features
+-- there; a package for a place in the plan of a member alone, with its features; its features in all these plans together, and whether the
+-- members agree once they have got a line with these; a member without a plan, and why.
 pub data ShownText : Type 0 where
-  version : PackageText → ShownText
+  version : PackageText → List PackageText → ShownText
   in_place : PackageText → Text → List Text → ShownText
   alone : PackageText → Text → PackageText → List Text → ShownText
   joined : PackageText → Text → List Text → Bool → ShownText
   refused : PackageText → Text → ShownText
 
 abbrev pub kind_of : ShownText → Text
-kind_of (version p) = codes "versions"
+kind_of (version p dependents) = codes "versions"
 kind_of (in_place p place features) = codes "places"
 kind_of (alone p place member features) = codes "alone"
 kind_of (joined p place features agrees) = codes "join"
 kind_of (refused p message) = codes "refused"
 
 abbrev pub package_of : ShownText → PackageText
-package_of (version p) = p
+package_of (version p dependents) = p
 package_of (in_place p place features) = p
 package_of (alone p place member features) = p
 package_of (joined p place features agrees) = p
@@ -42,15 +42,19 @@ abbrev pub place_name : List Text → Place → Text
 place_name names place.Host = codes "host"
 place_name names (place.Target k) = unwrap_or (slice_get names k) []
 
--- The lines about the package with this number.
-abbrev pub about : List PackageText → (PackageText → List ShownText) → ℕ → List ShownText
-about packages lines p = option_map_or lines (slice_get packages p) []
+-- What is said about the package with this number.
+abbrev pub about : {X : Type 0} → List PackageText → (PackageText → List X) → ℕ → List X
+about packages said p = option_map_or said (slice_get packages p) []
 
-abbrev pub version_at : List PackageText → ℕ → List ShownText
-version_at packages p = about packages (λ x. version x ∷ []) p
+-- The packages with these numbers.
+abbrev pub packages_at : List PackageText → List ℕ → List PackageText
+packages_at packages numbers = flat_map (about packages (λ x. x ∷ [])) numbers
+
+abbrev pub version_at : List PackageText → VersionText → List ShownText
+version_at packages v = about packages (λ x. version x (packages_at packages v.dependents) ∷ []) v.number
 
 abbrev pub versions_of : List PackageText → VersionsText → List ShownText
-versions_of packages v = flat_map (version_at packages) v.numbers
+versions_of packages v = flat_map (version_at packages) v.versions
 
 abbrev pub placed_as : List Text → PackageText → PlacedText → ShownText
 placed_as names x q = in_place x (place_name names q.place) q.features

@@ -28,7 +28,7 @@ pub fn all_shown<'u, 'v, 'w>(
     ensures { IfOk result (λ shown. map shown_text shown.items ≡ spec.all_shown (texts names.now) (map package_text packages.now) (duplicates_text found.now) (map disagreement_text disagreements.now) (map member_plan_text plans.now)) }
 {
     let mut shown = Vec::new(alloc);
-    push_versions(&mut shown, packages, &found.versions)?;
+    push_versions(alloc, &mut shown, packages, &found.versions)?;
     push_places(&mut shown, names, packages, &found.places)?;
     push_alone(
         alloc,

@@ -2,6 +2,7 @@
 #![tactic(auto)]
 
 mod alone;
+mod asked;
 mod gathered;
 mod listed;
 mod manifest_lines;

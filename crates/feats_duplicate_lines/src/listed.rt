@@ -1,46 +1,98 @@
 //! The lines about versions and places, and about members without a plan.
-ghost use Rattle.std.specs.Prelude.{◌≡◌, ◌++◌, OnOk, map, flat_map};
+ghost use Rattle.std.specs.Prelude.{◌≡◌, ◌++◌, ◌∷◌, [], IfOk, OnOk, map, flat_map};
 ghost use Rattle.cargo_workspaces.specs.Views.{package_text, texts};
-ghost use Rattle.feats_duplicates.specs.Views.{member_plan_text, outcome_text, placed_text, places_text, versions_text};
+ghost use Rattle.feats_duplicates.specs.Views.{member_plan_text, outcome_text, placed_text, places_text, version_text, versions_text};
 ghost use Rattle.feats_duplicate_lines.specs.Shown as spec;
-ghost use Rattle.feats_duplicate_lines.specs.Views.{shown_text};
+ghost use Rattle.feats_duplicate_lines.specs.Views.{packages_text, shown_text};
 
 use crate::place_names::place_name;
 use crate::shown::{Shown, package_at, push_shown};
 use cargo_workspaces::Package;
-use feats_duplicates::{MemberPlan, Outcome, PlaceFeatures, Places, Versions};
-use std::alloc::AllocError;
+use feats_duplicates::{MemberPlan, Outcome, PlaceFeatures, Places, Version, Versions};
+use std::alloc::{AllocError, Global};
 
-/// Appends the line of package `number`, which is one of several with its name.
-fn push_version<'u, 'v, 'w>(
-    shown: &mut Vec<Shown<'u, 'v, 'w>>,
+/// Appends the package with the number `number`, if there is one.
+fn push_at<'u, 'v>(
+    list: &mut Vec<&'u Package<'v>>,
     packages: &'u [Package<'v>],
     number: usize,
 ) -> Result<(), AllocError>
-    ensures { OnOk result (map shown_text shown.new.items ≡ map shown_text shown.old.items ++ spec.version_at (map package_text packages.now) number) }
+    ensures { OnOk result (packages_text list.new.items ≡ packages_text list.old.items ++ spec.about (map package_text packages.now) (λ x. x ∷ []) number) }
 {
-    match package_at(packages, number) {
-        Some(package) => push_shown(shown, Shown::Version { package }),
+    if let Some(package) = package_at(packages, number) {
+        list.push(package)?;
+    }
+    Ok(())
+}
+
+/// Returns the packages with the numbers `numbers`.
+fn packages_at<'u, 'v>(
+    alloc: Global,
+    packages: &'u [Package<'v>],
+    numbers: &[usize],
+) -> Result<Vec<&'u Package<'v>>, AllocError>
+    ensures { IfOk result (λ list. packages_text list.items ≡ spec.packages_at (map package_text packages.now) numbers.now) }
+{
+    let mut list = Vec::with_capacity(alloc, numbers.len())?;
+    for number in numbers {
+        push_at(&mut list, packages, *number)?;
+    }
+    Ok(list)
+}
+
+/// Appends the line of `package`, which is one of several with its name. The packages with the numbers `dependents` depend on it.
+fn push_depended<'u, 'v, 'w>(
+    alloc: Global,
+    shown: &mut Vec<Shown<'u, 'v, 'w>>,
+    packages: &'u [Package<'v>],
+    package: &'u Package<'v>,
+    dependents: &[usize],
+) -> Result<(), AllocError>
+    ensures { OnOk result (map shown_text shown.new.items ≡ map shown_text shown.old.items ++ spec.version (package_text «package».now) (spec.packages_at (map package_text packages.now) dependents.now) ∷ []) }
+{
+    let dependents = packages_at(alloc, packages, dependents)?;
+    push_shown(
+        shown,
+        Shown::Version {
+            package,
+            dependents,
+        },
+    )
+}
+
+/// Appends the line of `version`, which is one of several packages with its name.
+fn push_version<'u, 'v, 'w>(
+    alloc: Global,
+    shown: &mut Vec<Shown<'u, 'v, 'w>>,
+    packages: &'u [Package<'v>],
+    version: &Version,
+) -> Result<(), AllocError>
+    ensures { OnOk result (map shown_text shown.new.items ≡ map shown_text shown.old.items ++ spec.version_at (map package_text packages.now) (version_text version.now)) }
+{
+    match package_at(packages, version.package) {
+        Some(package) => push_depended(alloc, shown, packages, package, &version.dependents),
         None => Ok(()),
     }
 }
 
-/// Appends the lines of packages with these numbers.
-fn push_numbers<'u, 'v, 'w>(
+/// Appends the lines of `versions`, which are packages of one name.
+fn push_named<'u, 'v, 'w>(
+    alloc: Global,
     shown: &mut Vec<Shown<'u, 'v, 'w>>,
     packages: &'u [Package<'v>],
-    numbers: &[usize],
+    versions: &[Version],
 ) -> Result<(), AllocError>
-    ensures { OnOk result (map shown_text shown.new.items ≡ map shown_text shown.old.items ++ flat_map (spec.version_at (map package_text packages.now)) numbers.now) }
+    ensures { OnOk result (map shown_text shown.new.items ≡ map shown_text shown.old.items ++ flat_map (spec.version_at (map package_text packages.now)) (map version_text versions.now)) }
 {
-    for number in numbers {
-        push_version(shown, packages, *number)?;
+    for version in versions {
+        push_version(alloc, shown, packages, version)?;
     }
     Ok(())
 }
 
 /// Appends the lines of `versions`.
 pub(crate) fn push_versions<'u, 'v, 'w>(
+    alloc: Global,
     shown: &mut Vec<Shown<'u, 'v, 'w>>,
     packages: &'u [Package<'v>],
     versions: &[Versions<'_>],
@@ -48,7 +100,7 @@ pub(crate) fn push_versions<'u, 'v, 'w>(
     ensures { OnOk result (map shown_text shown.new.items ≡ map shown_text shown.old.items ++ flat_map (spec.versions_of (map package_text packages.now)) (map versions_text versions.now)) }
 {
     for one in versions {
-        push_numbers(shown, packages, &one.packages)?;
+        push_named(alloc, shown, packages, &one.versions)?;
     }
     Ok(())
 }

@@ -3,7 +3,7 @@ ghost use Rattle.std.specs.Prelude.{◌≡◌, ◌++◌, IfOk, OnOk, map, flat_m
 ghost use Rattle.cargo_workspaces.specs.Views.{package_text, texts};
 ghost use Rattle.feats_lines.specs.parts.Members.{Appends};
 ghost use Rattle.feats_duplicate_lines.specs.Objects as spec;
-ghost use Rattle.feats_duplicate_lines.specs.Views.{shown_text};
+ghost use Rattle.feats_duplicate_lines.specs.Views.{packages_text, shown_text};
 
 use crate::manifest_lines::manifest_line;
 use crate::rows::{kind_of, package_of};
@@ -61,6 +61,29 @@ fn write_joined(
     write_flag(writer, "agrees", agrees)
 }
 
+/// Returns the id of each of `packages`.
+fn ids_of<'v>(alloc: Global, packages: &[&Package<'v>]) -> Result<Vec<&'v str>, AllocError>
+    ensures { IfOk result (λ ids. texts ids.items ≡ map (λ p. p.id) (packages_text packages.now)) }
+{
+    let mut ids = Vec::with_capacity(alloc, packages.len())?;
+    for package in packages {
+        ids.push(package.id)?;
+    }
+    Ok(ids)
+}
+
+/// Writes the ids of the packages that depend on one of several versions.
+fn write_version(
+    alloc: Global,
+    writer: &mut Writer,
+    dependents: &[&Package<'_>],
+) -> Result<(), AllocError>
+    ensures { OnOk result (Appends writer.old writer.new (spec.version_members (packages_text dependents.now))) }
+{
+    let ids = ids_of(alloc, dependents)?;
+    write_texts(writer, "dependents", &ids)
+}
+
 /// Writes what `shown` says of its package.
 fn write_detail(
     alloc: Global,
@@ -70,7 +93,7 @@ fn write_detail(
     ensures { OnOk result (Appends writer.old writer.new (spec.detail (shown_text shown.now))) }
 {
     match shown {
-        Shown::Version { .. } => Ok(()),
+        Shown::Version { dependents, .. } => write_version(alloc, writer, dependents),
         Shown::InPlace {
             place,
             features,

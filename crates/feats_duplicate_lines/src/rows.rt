@@ -9,6 +9,7 @@ ghost use Rattle.feats_duplicate_lines.specs.Lines as spec;
 ghost use Rattle.feats_duplicate_lines.specs.Shown as shown_spec;
 ghost use Rattle.feats_duplicate_lines.specs.Views.{shown_text};
 
+use crate::asked::asked_by;
 use crate::manifest_lines::{joined_detail, push_features};
 use crate::shown::Shown;
 use cargo_workspaces::Package;
@@ -35,7 +36,7 @@ pub(crate) fn package_of<'u, 'v>(shown: &Shown<'u, 'v, '_>) -> &'u Package<'v>
     ensures { package_text result.now ≡ shown_spec.package_of (shown_text shown.now) }
 {
     match shown {
-        Shown::Version { package } => package,
+        Shown::Version { package, .. } => package,
         Shown::InPlace { package, .. } => package,
         Shown::Alone { package, .. } => package,
         Shown::Joined { package, .. } => package,
@@ -78,7 +79,7 @@ fn detail_of(
     ensures { (names : List Text) → HasRepeated repeated.now names → IfOk result (λ text. string_bytes text ≡ spec.detail_of names (shown_text shown.now)) }
 {
     match shown {
-        Shown::Version { .. } => Ok(String::new(alloc)),
+        Shown::Version { dependents, .. } => asked_by(alloc, repeated, dependents),
         Shown::InPlace {
             place,
             features,

@@ -9,11 +9,12 @@ use std::alloc::AllocError;
 /// A line about a package that is built several times.
 #[derive(Drop)]
 pub enum Shown<'u, 'v, 'w> {
-    /// One of several packages of one name that are built.
+    /// One of several packages of one name that are built, and the other packages that depend on it.
     Version {
         package: &'u Package<'v>,
+        dependents: Vec<&'u Package<'v>>,
     },
-    /// A package in one of several places where it has different features.
+    /// A package in one of several places.
     InPlace {
         package: &'u Package<'v>,
         place: &'u str,

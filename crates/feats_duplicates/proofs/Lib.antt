@@ -1,3 +1,4 @@
+pub mod Ascending
 pub mod JoinedLemmas
 pub mod Lists
 pub mod NameLemmas

@@ -1,7 +1,9 @@
 -- Steps of loops over lists.
-use Rattle.std.proofs.Common.{◌≡◌, ℕ, suc, ◌+◌, ◌<◌, List, [], ◌∷◌, ◌++◌, Bool, true, false, cond, length, map, filter, drop, get_or, refl, ap, sym, ◌∙◌, add-one, drop-cons, append_assoc, arith}
-use Rattle.std.specs.List.{AllByRecursion}
+use Rattle.std.proofs.Common.{◌≡◌, ℕ, suc, ◌+◌, ◌<◌, List, [], ◌∷◌, ◌++◌, Bool, true, false, cond, length, map, filter, drop, get_or, refl, ap, sym, ◌∙◌, add-one, drop-cons, append_assoc, arith, take, ◌&&◌}
+use Rattle.std.specs.Prelude.{◌||◌}
+use Rattle.std.specs.List.{AllByRecursion, list_any}
 use Rattle.std.proofs.lemmas.List.{map-append}
+use Rattle.std.proofs.lemmas.List.Folds.{list_any_more}
 use Rattle.cargo_plans.specs.plan_starts.Lists.{joined_from}
 
 -- the rest of a list from an item on
@@ -67,3 +69,16 @@ added f xs new false x is = ap (map f) is ∙ map-append f xs []
 pub all_more : {X : Type 0} (P : X → Type 0) (xs : List X) (x : X) → AllByRecursion P xs → P x → AllByRecursion P (xs ++ x ∷ [])
 all_more P [] x all one = (one, tt)
 all_more P (y ∷ ys) x (first, rest) one = (first, all_more P ys x rest one)
+
+-- one more item that may pass, in a test that has conditions
+pub any_more : {X : Type 0} (a b now : Bool) (p : X → Bool) (xs : List X) (i : ℕ) (x d : X) (old new : Bool) → i < length xs → x ≡ get_or xs i d → now ≡ p x
+    → old ≡ (a && (b && list_any p (take i xs))) → new ≡ (old || (a && (b && now))) → new ≡ (a && (b && list_any p (take (i + 1) xs)))
+any_more a b now p xs i x d old new within is passes was grown =
+    grown ∙ ap (λ o. o || (a && (b && now))) was ∙ joined a b (list_any p (take i xs)) now
+    ∙ ap (λ t. a && (b && (list_any p (take i xs) || t))) (passes ∙ ap p is)
+    ∙ ap (λ t. a && (b && t)) (sym (list_any_more p xs i d within))
+  where
+    joined : (a b s t : Bool) → ((a && (b && s)) || (a && (b && t))) ≡ (a && (b && (s || t)))
+    joined false b s t = refl
+    joined true false s t = refl
+    joined true true s t = refl

@@ -1,5 +1,5 @@
 -- The names that have several numbers, by the entries of a map.
-use Rattle.std.proofs.Common.{◌≡◌, ◌∙◌, sym, ap, refl, ℕ, List, [], ◌∷◌, map, length, Bool, true, false, cond, nat_lt, Option, Some, None, filter}
+use Rattle.std.proofs.Common.{◌≡◌, ◌∙◌, sym, ap, refl, ℕ, ◌<◌, List, [], ◌∷◌, ◌++◌, map, length, append_assoc, lt-ltb, Bool, true, false, cond, nat_lt, Option, Some, None, filter}
 use Rattle.std.specs.Prelude.{◌||◌}
 use Rattle.std.specs.Borrow.{Bor}
 use Rattle.std.specs.BTreeMap.{BTreeMap, IsOrdered, is_at}
@@ -16,7 +16,7 @@ use Rattle.std.proofs.lemmas.Map.Text.{is_eq-slice_cmp}
 use Rattle.std.proofs.lemmas.Slice.Eq.{bytes_eq-Decides}
 use Rattle.cargo_workspaces.specs.Workspaces.{Text, PackageText, text_cmp}
 use Rattle.cargo_plans.specs.plan_units.Units.{UnitText}
-use Rattle.feats_duplicates.specs.Versions.{AreVersions, VersionsText, versions_with}
+use Rattle.feats_duplicates.specs.Versions.{AreVersions, VersionText, VersionsText, version_of, versions_with}
 use Rattle.feats_duplicates.specs.inner.Groups.{HasNames, entry_text, has_more, key_cmp}
 
 abbrev Entry : Type 0
@@ -96,24 +96,39 @@ all_found (e ∷ es) (first, rest) =
     (ap (λ o. cond (is_eq o) (Some e.1) (lookup (is_at (key_cmp e.0)) es)) (tied_itself nat_list_cmp_total e.0.now), all_later e es es first (all_found es rest))
 
 -- each entry that is kept has the numbers of its name
-entries_listed : (m : BTreeMap (Bor Text) (Vec ℕ)) (packages : List PackageText) (units : List UnitText) (es : List Entry) → HasNames m packages units
-    → AllByRecursion (λ d. lookup (is_at (key_cmp d.0)) m.entries ≡ Some d.1) es → map entry_text (filter has_more es) ≡ map (versions_with packages units) (map (λ e. e.0.now) (filter has_more es))
-entries_listed m packages units [] has found = refl
-entries_listed m packages units (e ∷ es) has (one, more) = go (entries_listed m packages units es has more) (has_more e)
+entries_listed : (m : BTreeMap (Bor Text) (Vec ℕ)) (packages : List PackageText) (units : List UnitText) (links : List (ℕ × ℕ)) (es : List Entry) → HasNames m packages units
+    → AllByRecursion (λ d. lookup (is_at (key_cmp d.0)) m.entries ≡ Some d.1) es
+    → map (entry_text (version_of packages units links)) (filter has_more es) ≡ map (versions_with packages units links) (map (λ e. e.0.now) (filter has_more es))
+entries_listed m packages units links [] has found = refl
+entries_listed m packages units links (e ∷ es) has (one, more) = go (entries_listed m packages units links es has more) (has_more e)
   where
-    here : entry_text e ≡ versions_with packages units e.0.now
-    here = ap (λ ns. record { name = e.0.now; numbers = ns }) (ap (λ o. option_map_or (λ g. g.items) o []) (sym one) ∙ has e.0.now)
+    f : ℕ → VersionText
+    f = version_of packages units links
 
-    go : map entry_text (filter has_more es) ≡ map (versions_with packages units) (map (λ e. e.0.now) (filter has_more es))
-        → (b : Bool) → map entry_text (cond b (e ∷ filter has_more es) (filter has_more es)) ≡ map (versions_with packages units) (map (λ e. e.0.now) (cond b (e ∷ filter has_more es) (filter has_more es)))
-    go rest true = ap (λ v. v ∷ map entry_text (filter has_more es)) here ∙ ap (λ vs. versions_with packages units e.0.now ∷ vs) rest
+    here : entry_text f e ≡ versions_with packages units links e.0.now
+    here = ap (λ ns. record { name = e.0.now; versions = map f ns }) (ap (λ o. option_map_or (λ g. g.items) o []) (sym one) ∙ has e.0.now)
+
+    go : map (entry_text f) (filter has_more es) ≡ map (versions_with packages units links) (map (λ e. e.0.now) (filter has_more es))
+        → (b : Bool) → map (entry_text f) (cond b (e ∷ filter has_more es) (filter has_more es)) ≡ map (versions_with packages units links) (map (λ e. e.0.now) (cond b (e ∷ filter has_more es) (filter has_more es)))
+    go rest true = ap (λ v. v ∷ map (entry_text f) (filter has_more es)) here ∙ ap (λ vs. versions_with packages units links e.0.now ∷ vs) rest
     go rest false = rest
 
-pub are_versions : (m : BTreeMap (Bor Text) (Vec ℕ)) (packages : List PackageText) (units : List UnitText) (list : List VersionsText) → HasNames m packages units → IsOrdered key_cmp m
-    → list ≡ map entry_text (filter has_more m.entries) → AreVersions packages units list
-are_versions m packages units list has ordered is = record {
+pub are_versions : (m : BTreeMap (Bor Text) (Vec ℕ)) (packages : List PackageText) (units : List UnitText) (links : List (ℕ × ℕ)) (list : List VersionsText) → HasNames m packages units
+    → IsOrdered key_cmp m → list ≡ map (entry_text (version_of packages units links)) (filter has_more m.entries) → AreVersions packages units links list
+are_versions m packages units links list has ordered is = record {
   names = map (λ e. e.0.now) (filter has_more m.entries);
   ascending = ascend m.entries ordered;
   have_several = λ q. several_any q m.entries ordered ∙ ap (λ ns. nat_lt 1 (length ns)) (has q);
-  are_listed = is ∙ entries_listed m packages units m.entries has (all_found m.entries ordered);
+  are_listed = is ∙ entries_listed m packages units links m.entries has (all_found m.entries ordered);
 }
+
+-- one more entry that is kept
+pub several_more : (f : ℕ → VersionText) (left rest : List Entry) (e : Entry) (versions : List VersionText) (all so_far new : List VersionsText) → left ≡ e ∷ rest → 1 < length e.1.items
+    → all ≡ so_far ++ map (entry_text f) (filter has_more left) → versions ≡ map f e.1.items → new ≡ so_far ++ record { name = e.0.now; versions = versions } ∷ []
+    → all ≡ new ++ map (entry_text f) (filter has_more rest)
+several_more f left rest e versions all so_far new is several so are grown =
+    let kept : List VersionsText = map (entry_text f) (filter has_more rest) in
+    so ∙ ap (λ es. so_far ++ map (entry_text f) (filter has_more es)) is
+    ∙ ap (λ b. so_far ++ map (entry_text f) (cond b (e ∷ filter has_more rest) (filter has_more rest))) (lt-ltb 1 (length e.1.items) several)
+    ∙ sym (append_assoc so_far (entry_text f e ∷ []) kept)
+    ∙ ap (λ z. z ++ kept) (sym (grown ∙ ap (λ vs. so_far ++ record { name = e.0.now; versions = vs } ∷ []) are))

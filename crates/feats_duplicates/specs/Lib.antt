@@ -1,5 +1,6 @@
 pub mod Alone
 pub mod Built
+pub mod Dependents
 pub mod DisagreementViews
 pub mod Disagreements
 pub mod Duplicates

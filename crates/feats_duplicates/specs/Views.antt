@@ -6,7 +6,7 @@ use Rattle.feats_duplicates.specs.Alone.{AloneText, MemberUnitText}
 use Rattle.feats_duplicates.specs.Built.{PlacedText}
 use Rattle.feats_duplicates.specs.MemberPlans.{MemberPlanText, OutcomeText, built, not_planned}
 use Rattle.feats_duplicates.specs.Places.{PlacesText}
-use Rattle.feats_duplicates.specs.Versions.{VersionsText}
+use Rattle.feats_duplicates.specs.Versions.{VersionText, VersionsText}
 use Rattle.feats_duplicates.specs.declared.alone.Alone.{Alone}
 use Rattle.feats_duplicates.specs.declared.member_plans.MemberPlan.{MemberPlan}
 use Rattle.feats_duplicates.specs.declared.member_units.MemberUnit.{MemberUnit}
@@ -14,10 +14,14 @@ use Rattle.feats_duplicates.specs.declared.outcomes.Outcome.{Outcome}
 use Rattle.feats_duplicates.specs.declared.outcomes.Outcome.TheVariants as outcome
 use Rattle.feats_duplicates.specs.declared.placed.PlaceFeatures.{PlaceFeatures}
 use Rattle.feats_duplicates.specs.declared.places.Places.{Places}
+use Rattle.feats_duplicates.specs.declared.versions.Version.{Version}
 use Rattle.feats_duplicates.specs.declared.versions.Versions.{Versions}
 
+abbrev pub version_text : Version → VersionText
+version_text v = record { number = v.«package»; dependents = v.dependents.items }
+
 abbrev pub versions_text : Versions → VersionsText
-versions_text v = record { name = v.name.now; numbers = v.packages.items }
+versions_text v = record { name = v.name.now; versions = map version_text v.versions.items }
 
 abbrev pub placed_text : PlaceFeatures → PlacedText
 placed_text p = record { place = p.place; features = texts p.features.now }

@@ -1,4 +1,5 @@
 -- Definitions for private functions.
+pub mod Dependents
 pub mod Groups
 pub mod JoinViews
 pub mod Rows

@@ -12,8 +12,7 @@ ghost use Rattle.feats_duplicates.specs.Disagreements.{AreDisagreements, AreDisa
 ghost use Rattle.feats_duplicates.specs.Joined.{joined_workspace as joined_of};
 ghost use Rattle.feats_duplicates.specs.DisagreementViews.{disagreement_text};
 
-use crate::alone::Alone;
-use crate::duplicates::duplicates_of;
+use crate::alone::{Alone, alone_of};
 use crate::joined::joined_workspace;
 use crate::member_plans::{MemberPlan, plans_alone};
 use crate::member_units::MemberUnit;
@@ -155,8 +154,8 @@ fn disagreements_in(
     ensures { IfOk result (λ found. map disagreement_text found.items
         ≡ spec.disagreements (map package_text packages.now) (texts names.now) (map member_plan_text plans.now) (map alone_text list.now)) }
 {
-    let after = duplicates_of(alloc, packages, names, &[], plans)?;
-    let found = disagreements_among(alloc, &after.alone, plans, list);
+    let after = alone_of(alloc, packages, names, plans)?;
+    let found = disagreements_among(alloc, &after, plans, list);
     drop(after);
     found
 }

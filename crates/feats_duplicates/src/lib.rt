@@ -6,6 +6,7 @@
 mod alone;
 mod copies;
 mod declarations;
+mod dependents;
 mod differences;
 mod disagreements;
 mod duplicates;
@@ -32,4 +33,4 @@ pub use member_units::MemberUnit;
 pub use outcomes::Outcome;
 pub use placed::PlaceFeatures;
 pub use places::Places;
-pub use versions::Versions;
+pub use versions::{Version, Versions};

@@ -1,15 +1,19 @@
 //! Packages of one name, several of which are built.
-ghost use Rattle.std.specs.Prelude.{◌≡◌, List, IfOk, map, filter};
+ghost use Rattle.std.specs.Prelude.{◌≡◌, ℕ, List, IfOk, length, map, filter};
 ghost use Rattle.std.specs.BTreeMap.{IsOrdered};
+ghost use Rattle.cargo_workspaces.specs.Workspaces.{PackageText};
 ghost use Rattle.cargo_workspaces.specs.Views.{package_text};
 ghost use Rattle.cargo_plans.specs.plan_units.Units.{UnitText};
 ghost use Rattle.cargo_plans.specs.plan_units.UnitViews.{unit_text};
 ghost use Rattle.feats_duplicates.specs.Built as built;
+ghost use Rattle.feats_duplicates.specs.Versions as spec;
 ghost use Rattle.feats_duplicates.specs.Versions.{AreVersions};
-ghost use Rattle.feats_duplicates.specs.Views.{versions_text};
+ghost use Rattle.feats_duplicates.specs.Views.{version_text, versions_text};
+ghost use Rattle.feats_duplicates.specs.inner.Dependents.{HasDependents};
 ghost use Rattle.feats_duplicates.specs.inner.Groups.{HasNames, entry_text, has_more, key_cmp};
 ghost use Rattle.feats_duplicates.specs.inner.Rows.{HasPlaces};
 
+use crate::dependents::{dependents_by_package, dependents_in};
 use crate::names::add_if;
 use crate::placed::{PlaceFeatures, places_by_package, places_in};
 use cargo_plans::Unit;
@@ -17,12 +21,21 @@ use cargo_workspaces::Package;
 use std::alloc::{AllocError, Global};
 use std::collections::BTreeMap;
 
+/// One of several packages of one name that are built.
+#[derive(Drop)]
+pub struct Version {
+    /// The number of the package.
+    pub package: usize,
+    /// The numbers of the other packages of which a unit depends on a unit of this one, ascending.
+    pub dependents: Vec<usize>,
+}
+
 /// Packages of one name, several of which are built.
 #[derive(Drop)]
 pub struct Versions<'w> {
     pub name: &'w str,
-    /// The numbers of the packages, ascending.
-    pub packages: Vec<usize>,
+    /// The packages, in the order of their numbers.
+    pub versions: Vec<Version>,
 }
 
 /// Returns whether package `package` has a place in `groups`.
@@ -48,34 +61,68 @@ fn built_names<'w>(
     Ok(names)
 }
 
-/// Returns the names in `names` that have several numbers, with these numbers.
+/// Returns package `package` with its dependents in `dependents`.
+fn version_at(
+    alloc: Global,
+    dependents: &BTreeMap<usize, Vec<usize>>,
+    package: usize,
+) -> Result<Version, AllocError>
+    ensures { (packages : List PackageText) (units : List UnitText) (links : List (ℕ × ℕ)) → HasDependents dependents.now (length packages) units links → IfOk result (λ version. version_text version ≡ spec.version_of packages units links «package») }
+{
+    let dependents = dependents_in(alloc, dependents, package)?;
+    Ok(Version {
+        package,
+        dependents,
+    })
+}
+
+/// Returns the packages with the numbers `numbers`, each with its dependents in `dependents`.
+fn versions_at(
+    alloc: Global,
+    dependents: &BTreeMap<usize, Vec<usize>>,
+    numbers: &[usize],
+) -> Result<Vec<Version>, AllocError>
+    ensures { (packages : List PackageText) (units : List UnitText) (links : List (ℕ × ℕ)) → HasDependents dependents.now (length packages) units links → IfOk result (λ list. map version_text list.items ≡ map (spec.version_of packages units links) numbers.now) }
+{
+    let mut list = Vec::with_capacity(alloc, numbers.len())?;
+    for number in numbers {
+        list.push(version_at(alloc, dependents, *number)?)?;
+    }
+    Ok(list)
+}
+
+/// Returns the names in `names` that have several numbers, with the packages with these numbers and their dependents in `dependents`.
 fn with_several<'w>(
     alloc: Global,
     names: &BTreeMap<&'w str, Vec<usize>>,
+    dependents: &BTreeMap<usize, Vec<usize>>,
 ) -> Result<Vec<Versions<'w>>, AllocError>
-    ensures entries { IfOk result (λ list. map versions_text list.items ≡ map entry_text (filter has_more names.now.entries)) }
+    ensures entries { (packages : List PackageText) (units : List UnitText) (links : List (ℕ × ℕ)) → HasDependents dependents.now (length packages) units links → IfOk result (λ list. map versions_text list.items ≡ map (entry_text (spec.version_of packages units links)) (filter has_more names.now.entries)) }
     ensures ordered { IsOrdered key_cmp names.now }
 {
     let mut list = Vec::new(alloc);
-    for (name, packages) in names {
-        if packages.len() > 1 {
+    for (name, numbers) in names {
+        if numbers.len() > 1 {
             list.push(Versions {
                 name: *name,
-                packages: Vec::from_slice(alloc, packages)?,
+                versions: versions_at(alloc, dependents, numbers)?,
             })?;
         }
     }
     Ok(list)
 }
 
-/// Returns the names of which several of `packages` are built, by the units of a plan, in the order of their bytes.
+/// Returns the names of which several of `packages` are built, by the units of a plan, in the order of their bytes. `links` are those
+/// between `units`.
 pub(crate) fn versions_of<'w>(
     alloc: Global,
     packages: &'w [Package<'_>],
     units: &[Unit<'_>],
+    links: &[(usize, usize)],
 ) -> Result<Vec<Versions<'w>>, AllocError>
-    ensures { IfOk result (λ list. AreVersions (map package_text packages.now) (map unit_text units.now) (map versions_text list.items)) }
+    ensures { IfOk result (λ list. AreVersions (map package_text packages.now) (map unit_text units.now) links.now (map versions_text list.items)) }
 {
     let names = built_names(alloc, packages, units)?;
-    with_several(alloc, &names)
+    let dependents = dependents_by_package(alloc, packages.len(), units, links)?;
+    with_several(alloc, &names, &dependents)
 }

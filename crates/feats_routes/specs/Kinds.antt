@@ -2,12 +2,10 @@
 use Rattle.std.specs.Prelude.{◌==◌, ℕ, List, Bool, true, false, not, ◌&&◌, ◌||◌, Some, slice_get, unwrap_or, if◌then◌else◌}
 use Rattle.std.specs.List.{list_any}
 use Rattle.std.specs.Option.{option_map_or}
-use Rattle.feature_labels.specs.Names.LabelName.{optional}
 use Rattle.cargo_workspaces.specs.Workspaces.{Text, DeclarationText, PackageText, both_lead_to, has_script}
 use Rattle.cargo_workspaces.specs.declared.package.Kind.{Kind}
 use Rattle.cargo_workspaces.specs.declared.package.Kind.TheVariants as kind
-use Rattle.cargo_plans.specs.plan_starts.PackageVisits.{is_on}
-use Rattle.cargo_plans.specs.plan_steps.Plans.{PlanText}
+use Rattle.cargo_plans.specs.plan_steps.Plans.{PlanText, turned_on}
 use Rattle.cargo_plans.specs.plan_units.Units.{UnitText}
 use Rattle.cargo_plans.specs.declared.plan_units.unit.Place.{Place}
 use Rattle.cargo_plans.specs.declared.plan_units.unit.Place.TheVariants.{Host, Target}
@@ -46,7 +44,7 @@ abbrev pub leads : List PackageText → UnitText → UnitText → DeclarationTex
 leads packages u v d = both_lead_to (Some v.number) d.leads_to && is_same_place (place_to d (is_macro packages v.number) u.place) v.place
 
 abbrev pub is_required_or_on : Bool → PlanText → UnitText → DeclarationText → Bool
-is_required_or_on split plan u d = not d.optional || is_on plan.on (side_at split u.place) u.number (optional d.name)
+is_required_or_on split plan u d = not d.optional || turned_on plan.on (side_at split u.place) u.number d.name
 
 -- Whether the kind is that for builds, if `build`, or else the normal one.
 abbrev pub is_of : Bool → Kind → Bool

@@ -13,7 +13,8 @@ use crate::shown::Shown;
 use cargo_plans::plan_steps::{Place, Plan, Unit};
 use cargo_workspaces::{Declaration, Kind, Package};
 use feats_why::WhySettings;
-use plan_rows::{Platform, Side, TurnedOn, admits, host_side, is_macro_at};
+use plan_rows::rules::{admits, host_side, is_macro_at};
+use plan_rows::{Platform, Side, TurnedOn};
 
 /// Returns the side whose features `place` has.
 fn side_at(split: bool, place: Place) -> Side

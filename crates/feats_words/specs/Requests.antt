@@ -12,7 +12,7 @@ texts = map (λ t. t.now)
 -- The question that a command asks about a build. `why` also says whether every direct reason is wanted, `duplicates` whether the selected
 -- members are planned alone too and whether packages with the same features in several places are shown, and `check`, whose word is the policy's file, whether it asks about every choice and whether each word of a
 -- rule must name something. `slim` may name the file of the manifests. `unused` asks which features of members no other package turns on, `report` for the data of a page, `summary` for the summary of a
--- plan, and `routes` for the shortest routes to a feature.
+-- plan, and `routes` for the shortest routes to a package.
 pub data QuestionText : Type 0 where
   plan : QuestionText
   summary : QuestionText
@@ -104,11 +104,11 @@ target_words rows = record {
 abbrev pub built : List Row → QuestionText
 built rows = if is_given (codes "report") rows then report else plan
 
--- The question of `plan`, or with `--summary` that about the summary.
+-- The question of `plan`. With `--summary` it is about the summary.
 abbrev pub planned : List Row → QuestionText
 planned rows = if is_given (codes "summary") rows then summary else built rows
 
--- The question of `why`, or with `--routes` that about the shortest routes.
+-- The question of `why`. With `--routes` it is about the shortest routes.
 abbrev pub explained : List Row → QuestionText
 explained rows =
     if is_given (codes "routes") rows then routes (required_value (codes "feature") rows)

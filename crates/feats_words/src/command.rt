@@ -238,7 +238,7 @@ fn why_command<'a>(alloc: Global) -> Made<'a>
         flag(
             alloc,
             "routes",
-            "Print the shortest route to the feature from each package where one begins",
+            "Print instead a shortest chain of dependencies to the package from each selected member that leads to it",
         ),
     );
     with_options(alloc, command, false)

@@ -173,12 +173,12 @@ fn not_both<'a>(question: Question<'_>, all: bool) -> Result<(), WordsFault<'a>>
     }
 }
 
-/// Returns `ListOfNothing` if `question` is about the features of one package and `spec` is none. Returns `UnusedOfOne` if it is about features
-/// that nothing uses and `spec` is some.
-fn of_one<'a>(question: Question<'_>, spec: Option<&str>) -> Result<(), WordsFault<'a>>
-    ensures { Gives (λ u. u) result (spec.of_one (question_text question.entry) (option_map (λ t. t.now) spec.entry)) }
+/// Returns `ListOfNothing` if `question` is about the features of one package and `named` is none. Returns `UnusedOfOne` if it is about features
+/// that nothing uses and `named` is some.
+fn of_one<'a>(question: Question<'_>, named: Option<&str>) -> Result<(), WordsFault<'a>>
+    ensures { Gives (λ u. u) result (spec.of_one (question_text question.entry) (option_map (λ t. t.now) named.entry)) }
 {
-    match (question, spec) {
+    match (question, named) {
         (Question::List(_), None) => Err(WordsFault::ListOfNothing),
         (Question::Unused, Some(_)) => Err(WordsFault::UnusedOfOne),
         _ => Ok(()),

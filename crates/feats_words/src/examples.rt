@@ -14,8 +14,8 @@ Example, with the files of `feats plan --help`:
   feats why --metadata metadata.json --host x86_64-unknown-linux-gnu=host.cfg -p server libc/extra_traits
 The same with every direct reason of each step:
   feats why --all --metadata metadata.json --host x86_64-unknown-linux-gnu=host.cfg -p server libc/extra_traits
-The shortest route from each package where one begins:
-  feats why --routes --metadata metadata.json --host x86_64-unknown-linux-gnu=host.cfg -p server libc/extra_traits
+A shortest chain of dependencies from each selected member to a package:
+  feats why --routes --metadata metadata.json --host x86_64-unknown-linux-gnu=host.cfg -p server libc
 ";
 
 pub(crate) const WHY_NOT_EXAMPLE: &str = "\

@@ -24,7 +24,7 @@ pub enum Question<'a> {
         feature: &'a str,
         all: bool,
     },
-    /// What is the shortest route to this feature from each package where one begins?
+    /// What is a shortest chain of dependencies to the package of this word, from each selected member that leads to it?
     Routes(&'a str),
     /// Why is this feature off?
     WhyNot(&'a str),
@@ -67,6 +67,8 @@ pub struct Request<'a> {
     pub question: Question<'a>,
     /// True if `--all` is given, which excludes `--routes`.
     pub all: bool,
+    /// The package of `list`.
+    pub spec: Option<&'a str>,
     /// The path of the document, or `-`.
     pub metadata: &'a str,
     /// The path of the document with which `diff` compares it, or `-`.
@@ -137,7 +139,7 @@ fn built<'a>(matches: &ArgMatches<'_>) -> Question<'a>
     }
 }
 
-/// Returns the question of `plan`: with `--summary` that about the summary.
+/// Returns the question of `plan`. With `--summary` it is about the summary.
 fn planned<'a>(matches: &ArgMatches<'_>) -> Question<'a>
     ensures { question_text result ≡ spec.planned (rows_of (found_of matches.now)) }
 {
@@ -148,7 +150,7 @@ fn planned<'a>(matches: &ArgMatches<'_>) -> Question<'a>
     }
 }
 
-/// Returns the question of `why`: with `--routes` that about the shortest routes.
+/// Returns the question of `why`. With `--routes` it is about the shortest routes.
 fn explained<'a>(matches: &ArgMatches<'a>) -> Question<'a>
     ensures { question_text result ≡ spec.explained (rows_of (found_of matches.now)) }
 {

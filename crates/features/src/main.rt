@@ -15,7 +15,7 @@ use std::process::ExitCode;
 use std::{env, io};
 
 /// The answer to `--version`. `./build` and the launchers replace the text in parentheses, if it isn't true of their program.
-const VERSION: &str = "features 0.13.0 (proved, rattle-kit-13f logic dac8208d650f15bf)";
+const VERSION: &str = "features 0.14.0 (proved, rattle-kit-13f logic dac8208d650f15bf)";
 
 /// The answer to `--help`.
 const HELP: &str =

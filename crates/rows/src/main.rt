@@ -29,7 +29,7 @@ fn file_word(rt: &HostRuntime) -> Result<Option<String>, Fault> {
 }
 
 /// The answer to `--version`. `./build` and the launchers replace the text in parentheses, if it isn't true of their program.
-const VERSION: &str = "rows 0.13.0 (proved, rattle-kit-13f logic dac8208d650f15bf)";
+const VERSION: &str = "rows 0.14.0 (proved, rattle-kit-13f logic dac8208d650f15bf)";
 
 /// Writes the version to standard output. There are no warnings.
 fn write_version(rt: &HostRuntime) -> Result<Vec<Warning>, Fault> {

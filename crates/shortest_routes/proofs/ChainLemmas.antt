@@ -1,10 +1,10 @@
 -- Routes by steps.
-use Rattle.std.proofs.Common.{◌≡◌, ◌∙◌, ◌<◌, ◌≤◌, ◌+◌, ℕ, suc, refl, ap, sym, subst, List, [], ◌∷◌, ◌++◌, length, Option, Some, None, Contains, append_assoc, arith}
+use Rattle.std.proofs.Common.{◌≡◌, ◌∙◌, ◌<◌, ◌≤◌, ◌+◌, ℕ, suc, ap, sym, subst, List, [], ◌∷◌, ◌++◌, length, Option, Some, None, append_assoc, arith}
 use Rattle.std.proofs.lemmas.List.{length_push}
 use Rattle.std.specs.Prelude.{option_and_then}
 use Rattle.std.specs.Option.{option_map_or}
 use Rattle.shortest_routes.specs.Chains.{IsRoute}
-use Rattle.shortest_routes.specs.inner.Nearest.{AreAnySteps, distance_at, next_at}
+use Rattle.shortest_routes.specs.inner.Nearest.{distance_at, next_at}
 use Rattle.shortest_routes.specs.inner.Searches.{HasStep}
 use Rattle.shortest_routes.specs.inner.Steps.{AreSteps, LeadsBy, step_at}
 use Rattle.shortest_routes.specs.declared.step.Step.{Step}

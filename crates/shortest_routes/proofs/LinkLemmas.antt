@@ -1,5 +1,5 @@
 -- Lists of the nodes before each node.
-use Rattle.std.proofs.Common.{◌≡◌, ◌∙◌, ◌⊎◌, ◌<◌, ◌+◌, ◌↔◌, ℕ, zero, suc, inl, inr, ⊎_elim, refl, ap, ap₂, sym, subst, List, [], ◌∷◌, ◌++◌, length, take, set, get_or, Bool, true, false, cond, nat_eq, Contains, le_of_suc-le-suc, not-suc-le-zero}
+use Rattle.std.proofs.Common.{◌≡◌, ◌∙◌, ◌⊎◌, ◌<◌, ◌+◌, ℕ, zero, suc, inl, inr, ⊎_elim, refl, ap, ap₂, sym, subst, List, [], ◌∷◌, ◌++◌, length, take, set, get_or, Bool, true, false, cond, nat_eq, Contains, le_of_suc-le-suc, not-suc-le-zero}
 use Rattle.std.specs.Global.{Vec}
 use Rattle.std.proofs.lemmas.Bool.{cases_eq, eq-eqb, eqb-true, ne_eqb}
 use Rattle.std.proofs.lemmas.List.Elements.{Contains-append_cases, Contains-append_left, Contains-append_right, Contains-push_cases}

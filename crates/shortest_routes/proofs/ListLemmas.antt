@@ -1,7 +1,7 @@
 -- Elements of lists.
-use Rattle.std.proofs.Common.{◌≡◌, ◌⊎◌, ◌<◌, ◌≤◌, ◌+◌, ℕ, zero, suc, eqb, true, false, replicate, inl, inr, ⊎_elim, refl, ap, sym, subst, List, [], ◌∷◌, ◌++◌, length, take, get_or, max, Contains, Option, Some, None, arith, not-suc-le-zero}
+use Rattle.std.proofs.Common.{◌≡◌, ◌⊎◌, ◌<◌, ◌≤◌, ◌+◌, ℕ, zero, suc, eqb, true, false, replicate, ⊎_elim, refl, ap, sym, subst, List, [], ◌∷◌, length, take, get_or, max, Contains, Option, Some, None, arith, not-suc-le-zero}
 use Rattle.std.proofs.lemmas.List.{take_all, take_more}
-use Rattle.std.proofs.lemmas.List.Elements.{Contains-append_left, Contains-append_right, Contains-push, Contains-push_cases}
+use Rattle.std.proofs.lemmas.List.Elements.{Contains-append_left, Contains-push, Contains-push_cases}
 
 pub none_in : {X : Type 0} (x : X) → Contains [] x → ⊥
 none_in x c = not-suc-le-zero c.1

@@ -1,9 +1,9 @@
 -- The nearest start of an owner.
-use Rattle.std.proofs.Common.{◌≡◌, ◌∙◌, ◌⊎◌, ◌<◌, ◌≤◌, ◌+◌, ℕ, inl, inr, ⊎_elim, refl, ap, sym, subst, List, [], length, take, set, get_or, replicate, Bool, true, false, cond, nat_eq, nat_lt, Option, Some, None, is_some, Contains, slice_get, arith, get_or-set_same, get_or-set_other}
+use Rattle.std.proofs.Common.{◌≡◌, ◌∙◌, ◌⊎◌, ◌<◌, ◌≤◌, ◌+◌, ℕ, inl, inr, ⊎_elim, refl, ap, sym, subst, List, length, take, set, get_or, Bool, true, false, cond, nat_eq, nat_lt, Option, Some, None, is_some, slice_get, arith, get_or-set_same, get_or-set_other}
 use Rattle.std.specs.Option.{option_map_or}
 use Rattle.std.proofs.lemmas.Bool.{cases_eq, eq-eqb, eqb-true, ltb-true, ltb-false, ne_eqb}
 use Rattle.shortest_routes.specs.Routes.{IsStartOf}
-use Rattle.shortest_routes.specs.inner.Nearest.{IsNearest, distance_at, is_nearer, nearer, noted}
+use Rattle.shortest_routes.specs.inner.Nearest.{IsNearest, distance_at, nearer, noted}
 use Rattle.shortest_routes.specs.inner.Steps.{step_at}
 use Rattle.shortest_routes.specs.declared.step.Step.{Step}
 use Rattle.shortest_routes.proofs.ChainLemmas.{distance_is}
@@ -22,10 +22,17 @@ written f old owner best within is o = at (cases_eq o owner)
 module _ (steps : List (Option Step)) (P Q : ℕ → Type 0) (x : ℕ) (is_x : Q x) (more : (n : ℕ) → P n → Q n) (only : (n : ℕ) → Q n → P n ⊎ (x ≡ n)) where
   -- the new one is the nearest
   is_first : (s : Step) → step_at steps x ≡ Some s → ((n : ℕ) (t : Step) → P n → step_at steps n ≡ Some t → s.distance ≤ t.distance) → IsNearest steps Q (Some x)
-  is_first s e least = (is_x, (s, e, λ n t q at. ⊎_elim
-      (λ p. least n t p at)
-      (λ same. let d : s.distance ≡ t.distance = ap (λ (z : Step). z.distance) (same_one (step_at steps n) s t (subst (λ z. step_at steps z ≡ Some s) same e) at) in omega arith)
-      (only n q)))
+  is_first s e least = (
+    is_x,
+    (
+      s,
+      e,
+      λ n t q at. ⊎_elim
+          (λ p. least n t p at)
+          (λ same. let d : s.distance ≡ t.distance = ap (λ (z : Step). z.distance) (same_one (step_at steps n) s t (subst (λ z. step_at steps z ≡ Some s) same e) at) in omega arith)
+          (only n q),
+    ),
+  )
 
   -- none has a step
   has_none : ((n : ℕ) → P n → step_at steps n ≡ None) → step_at steps x ≡ None → IsNearest steps Q None
@@ -34,10 +41,17 @@ module _ (steps : List (Option Step)) (P Q : ℕ → Type 0) (x : ℕ) (is_x : Q
   -- the old one stays the nearest
   stays : (best : ℕ) (s : Step) → P best → step_at steps best ≡ Some s → ((n : ℕ) (t : Step) → P n → step_at steps n ≡ Some t → s.distance ≤ t.distance)
       → ((t : Step) → step_at steps x ≡ Some t → s.distance ≤ t.distance) → IsNearest steps Q (Some best)
-  stays best s p e least last = (more best p, (s, e, λ n t q at. ⊎_elim
-      (λ r. least n t r at)
-      (λ same. last t (subst (λ z. step_at steps z ≡ Some t) (sym same) at))
-      (only n q)))
+  stays best s p e least last = (
+    more best p,
+    (
+      s,
+      e,
+      λ n t q at. ⊎_elim
+          (λ r. least n t r at)
+          (λ same. last t (subst (λ z. step_at steps z ≡ Some t) (sym same) at))
+          (only n q),
+    ),
+  )
 
   pub nearer_is : (best : Option ℕ) → IsNearest steps P best → IsNearest steps Q (nearer steps best x)
   nearer_is None w = by_option (step_at steps x)
@@ -45,9 +59,9 @@ module _ (steps : List (Option Step)) (P Q : ℕ → Type 0) (x : ℕ) (is_x : Q
       (λ s e. subst (λ o. IsNearest steps Q (cond (is_some o) (Some x) None)) (sym e) (is_first s e (λ n t p at. not_both (step_at steps n) t (w n p) at)))
   nearer_is (Some best) w = by_option (step_at steps x)
       (λ none. subst (λ o. IsNearest steps Q (cond (option_map_or (λ (z : Step). nat_lt z.distance (distance_at steps best)) o false) (Some x) (Some best))) (sym none)
-          (stays best w.1.0 w.0 w.1.1 w.1.2 (λ t at. not_both (step_at steps x) t none at)))
+      (stays best w.1.0 w.0 w.1.1 w.1.2 (λ t at. not_both (step_at steps x) t none at)))
       (λ s e. subst (λ o. IsNearest steps Q (cond (option_map_or (λ (z : Step). nat_lt z.distance (distance_at steps best)) o false) (Some x) (Some best))) (sym e)
-          (go s e (nat_lt s.distance (distance_at steps best)) refl))
+      (go s e (nat_lt s.distance (distance_at steps best)) refl))
     where
       known : distance_at steps best ≡ w.1.0.distance
       known = distance_is steps best w.1.0 w.1.1

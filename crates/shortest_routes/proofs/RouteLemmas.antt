@@ -1,17 +1,16 @@
 -- The routes of owners, from their nearest starts.
-use Rattle.std.proofs.Common.{◌≡◌, ◌∙◌, ◌⊎◌, ◌<◌, ◌≤◌, ◌+◌, ℕ, inl, inr, ⊎_elim, refl, ap, sym, subst, List, [], ◌∷◌, ◌++◌, map, length, get_or, Option, Some, None, All, AllPairs, Contains, slice_get, arith, not-suc-le-zero}
+use Rattle.std.proofs.Common.{◌≡◌, ◌<◌, ◌≤◌, ◌+◌, ℕ, ⊎_elim, sym, subst, List, [], ◌∷◌, ◌++◌, map, length, get_or, Option, Some, None, All, Contains, slice_get, arith, not-suc-le-zero}
 use Rattle.std.proofs.lemmas.Bool.{cases_lt}
 use Rattle.std.proofs.lemmas.List.{map-append}
 use Rattle.std.proofs.lemmas.List.Elements.{All-get_or, All-push, All-weaker, Contains-append_left, Contains-push}
 use Rattle.std.proofs.lemmas.List.Quantifiers.{all_pairs_push}
-use Rattle.shortest_routes.specs.Chains.{IsRoute, IsShortest}
+use Rattle.shortest_routes.specs.Chains.{IsShortest}
 use Rattle.shortest_routes.specs.Routes.{AreShortestRoutes, IsStartOf, RouteText}
 use Rattle.shortest_routes.specs.inner.Nearest.{AppendsRoute, AreRoutesTo, HaveSteps, IsNearest, IsRouteBy, IsRouteOf, distance_at}
-use Rattle.shortest_routes.specs.inner.Searches.{HasStep}
 use Rattle.shortest_routes.specs.inner.Steps.{AreSteps, step_at}
 use Rattle.shortest_routes.specs.declared.step.Step.{Step}
 use Rattle.shortest_routes.proofs.ChainLemmas.{distance_is, no_shorter}
-use Rattle.shortest_routes.proofs.ListLemmas.{by_option, not_both, same_one}
+use Rattle.shortest_routes.proofs.ListLemmas.{by_option, not_both}
 
 -- no owner was looked at
 pub routes_begun : (steps : List (Option Step)) (nearest : List (Option ℕ)) (routes : List RouteText) → routes ≡ [] → AreRoutesTo steps nearest 0 routes

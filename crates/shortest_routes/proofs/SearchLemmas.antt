@@ -1,5 +1,5 @@
 -- What a search keeps true.
-use Rattle.std.proofs.Common.{◌≡◌, ◌∙◌, ◌⊎◌, ◌<◌, ◌≤◌, ◌+◌, ◌↔◌, ℕ, zero, suc, inl, inr, ⊎_elim, refl, ap, sym, subst, List, [], ◌∷◌, ◌++◌, length, set, get_or, Bool, false, eqb, Option, Some, None, Contains, arith, get_or-set_same, get_or-set_other, length-set, le_of_suc-le-suc, not-suc-le-zero}
+use Rattle.std.proofs.Common.{◌≡◌, ◌∙◌, ◌⊎◌, ◌<◌, ◌≤◌, ◌+◌, ℕ, zero, suc, inl, inr, ⊎_elim, refl, ap, sym, subst, List, [], ◌∷◌, ◌++◌, length, set, Bool, false, eqb, Option, Some, None, Contains, arith, get_or-set_same, get_or-set_other, length-set, le_of_suc-le-suc, not-suc-le-zero}
 use Rattle.std.specs.Global.{Vec}
 use Rattle.std.proofs.lemmas.Bool.{cases_eq, cases_lt}
 use Rattle.std.proofs.lemmas.List.{length_push}

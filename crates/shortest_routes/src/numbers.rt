@@ -34,10 +34,7 @@ fn greatest_end(links: &[(usize, usize)]) -> usize
 
 /// Returns the number of nodes, which are numbered from 0 to the greatest number in `links` and `targets`. An error is returned if it
 /// doesn't fit.
-pub(crate) fn node_count(
-    links: &[(usize, usize)],
-    targets: &[usize],
-) -> Result<usize, AllocError>
+pub(crate) fn node_count(links: &[(usize, usize)], targets: &[usize]) -> Result<usize, AllocError>
     ensures links { IfOk result (λ count. (from to : ℕ) → Contains links.now (from, to) → (from < count) × (to < count)) }
     ensures targets { IfOk result (λ count. (n : ℕ) → Contains targets.now n → n < count) }
 {

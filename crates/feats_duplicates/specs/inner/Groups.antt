@@ -1,5 +1,5 @@
 -- Maps of groups.
-use Rattle.std.specs.Prelude.{◌≡◌, ℕ, List, [], Bool, length, nat_lt}
+use Rattle.std.specs.Prelude.{◌≡◌, ℕ, List, [], Bool, length, map, nat_lt}
 use Rattle.std.specs.Borrow.{Bor}
 use Rattle.std.specs.BTreeMap.{BTreeMap, get_by}
 use Rattle.std.specs.Cmp.Lexicographic.{slice_cmp}
@@ -9,7 +9,7 @@ use Rattle.std.specs.Ordering.{nat_cmp}
 use Rattle.std.specs.declared.cmp.Ordering.{Ordering}
 use Rattle.cargo_workspaces.specs.Workspaces.{Text, PackageText, text_cmp}
 use Rattle.cargo_plans.specs.plan_units.Units.{UnitText}
-use Rattle.feats_duplicates.specs.Versions.{VersionsText, built_with_name}
+use Rattle.feats_duplicates.specs.Versions.{VersionText, VersionsText, built_with_name}
 
 -- The group of a number; empty if there is none.
 abbrev pub group_at : {T : Type 0} → BTreeMap ℕ (Vec T) → ℕ → List T
@@ -27,8 +27,9 @@ key_cmp a b = text_cmp a.now b.now
 abbrev pub HasNames : BTreeMap (Bor Text) (Vec ℕ) → List PackageText → List UnitText → Type 0
 HasNames names packages units = (q : Text) → named names q ≡ built_with_name packages units q
 
-abbrev pub entry_text : Bor Text × Vec ℕ → VersionsText
-entry_text e = record { name = e.0.now; numbers = e.1.items }
+-- The name of an entry, with what `f` says of each of its numbers.
+abbrev pub entry_text : (ℕ → VersionText) → Bor Text × Vec ℕ → VersionsText
+entry_text f e = record { name = e.0.now; versions = map f e.1.items }
 
 -- Whether a name has several numbers.
 abbrev pub has_more : Bor Text × Vec ℕ → Bool

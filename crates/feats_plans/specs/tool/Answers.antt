@@ -16,9 +16,15 @@ use Rattle.feats_check.specs.checking.Warnings.{ArePolicyWarnings, IsStrictRefus
 use Rattle.feats_policies.specs.Rules.{RuleText}
 use Rattle.shown_texts.specs.Plain.{is_plain}
 
--- What is asked by the arguments, with these rules of the policy.
-abbrev pub asked_by : InputsText → List RuleText → AskedText
-asked_by inputs rules = record { arguments = inputs.arguments; rules = rules; targets = inputs.targets; member_manifests = inputs.member_manifests }
+-- What is asked by the arguments, with the bytes of the document and these rules of the policy.
+abbrev pub asked_by : InputsText → Text → List RuleText → AskedText
+asked_by inputs bytes rules = record {
+  arguments = inputs.arguments;
+  rules = rules;
+  targets = inputs.targets;
+  document = bytes;
+  member_manifests = inputs.member_manifests;
+}
 
 -- An answer, and warnings.
 pub record AnsweredText : Type 0 where
@@ -48,21 +54,21 @@ abbrev pub IsStrictly : QuestionText → List RuleText → PlannedText → Text 
 IsStrictly (check file every_choice strict) rules p message = IsStrictRefusal (policy_words file every_choice strict rules) p.workspace p.words message
 IsStrictly _ rules p message = ⊥
 
--- The answer about a plan, with these rules, and the warnings.
-pub record IsPlanAnswer (rules : List RuleText) (p : PlannedText) (answered : AnsweredText) : Type 0 where
+-- The answer about a plan of the document with these bytes, with these rules, and the warnings.
+pub record IsPlanAnswer (bytes : Text) (rules : List RuleText) (p : PlannedText) (answered : AnsweredText) : Type 0 where
   pub are_warnings : AreWarnings rules p answered.warnings
-  pub is_answer : IsAnswerTo (asked_by p.inputs rules) p.workspace p.words p.plan answered.answer
+  pub is_answer : IsAnswerTo (asked_by p.inputs bytes rules) p.workspace p.words p.plan answered.answer
 
 -- The message why there is none: a word of a rule names nothing, or the question has no answer about the plan.
-pub data IsPlanRefusal (rules : List RuleText) (p : PlannedText) (message : Text) : Type 0 where
-  of_warnings : IsStrictly p.inputs.arguments.question rules p message → IsPlanRefusal rules p message
-  of_question : IsNoAnswerTo (asked_by p.inputs rules) p.workspace p.words p.plan message → IsPlanRefusal rules p message
+pub data IsPlanRefusal (bytes : Text) (rules : List RuleText) (p : PlannedText) (message : Text) : Type 0 where
+  of_warnings : IsStrictly p.inputs.arguments.question rules p message → IsPlanRefusal bytes rules p message
+  of_question : IsNoAnswerTo (asked_by p.inputs bytes rules) p.workspace p.words p.plan message → IsPlanRefusal bytes rules p message
 
 -- THE ANSWER for the arguments, the files and the bytes of the document, and the warnings.
 pub record IsAnswer (inputs : InputsText) (bytes : Text) (answered : AnsweredText) : Type 0 where
   pub rules : List RuleText
   pub are_rules : AreRules inputs.arguments.question inputs.policy rules
-  pub is_answer : AfterPlanning inputs bytes (λ p. IsPlanAnswer rules p answered)
+  pub is_answer : AfterPlanning inputs bytes (λ p. IsPlanAnswer bytes rules p answered)
 
 -- THE TEXT that is written: that of the answer, in which each control character but the line feeds is escaped; no other is in it.
 pub record IsShown (inputs : InputsText) (bytes : Text) (shown : AnsweredText) : Type 0 where
@@ -75,4 +81,4 @@ pub record IsShown (inputs : InputsText) (bytes : Text) (shown : AnsweredText) :
 -- The message why there is no answer: the policy is at fault, then another file or the document, and then the plan or the question.
 pub data IsNoAnswer (inputs : InputsText) (bytes message : Text) : Type 0 where
   of_rules : IsRulesRefusal inputs.arguments.question inputs.policy message → IsNoAnswer inputs bytes message
-  of_plan : (rules : List RuleText) → AreRules inputs.arguments.question inputs.policy rules → IsPlanningRefusal inputs bytes (IsPlanRefusal rules) message → IsNoAnswer inputs bytes message
+  of_plan : (rules : List RuleText) → AreRules inputs.arguments.question inputs.policy rules → IsPlanningRefusal inputs bytes (IsPlanRefusal bytes rules) message → IsNoAnswer inputs bytes message

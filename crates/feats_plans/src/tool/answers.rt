@@ -26,7 +26,10 @@ pub fn answer(
     ensures fault { IfErr result (λ fault. Says fault (IsNoAnswer (inputs_text arguments.now files.now) bytes.now)) }
 {
     let rules = rules_of(alloc, arguments.question, &files.policy)?;
-    let visitor = AskedVisitor { rules: &rules };
+    let visitor = AskedVisitor {
+        document: bytes,
+        rules: &rules,
+    };
     visit_plan(alloc, arguments, files, bytes, &visitor)
 }
 

@@ -79,21 +79,24 @@ fn warnings_of(
     Ok(warnings)
 }
 
-/// Returns the answer to the question of the arguments about the plan. `rules` are those of the policy.
+/// Returns the answer to the question of the arguments about the plan. `document` has the bytes of the document, and `rules` are those of the
+/// policy.
 fn answer_of(
     alloc: Global,
+    document: &[u8],
     rules: &[Rule<'_>],
     planned: &Planned<'_, '_, '_, '_, '_>,
 ) -> Result<Answer, Fault>
     requires specs { map declared_text planned.now.specs.now ≡ declared_specs (planned_text planned.now).workspace.packages }
     requires plan { IsPlanOf (planned_text planned.now).workspace (planned_text planned.now).words (planned_text planned.now).plan }
-    ensures answer { IfOk result (λ answer. IsAnswerTo (asked_by (planned_text planned.now).inputs (map rule_text rules.now)) (planned_text planned.now).workspace (planned_text planned.now).words (planned_text planned.now).plan (answer_text answer)) }
-    ensures fault { IfErr result (λ fault. Says fault (IsNoAnswerTo (asked_by (planned_text planned.now).inputs (map rule_text rules.now)) (planned_text planned.now).workspace (planned_text planned.now).words (planned_text planned.now).plan)) }
+    ensures answer { IfOk result (λ answer. IsAnswerTo (asked_by (planned_text planned.now).inputs document.now (map rule_text rules.now)) (planned_text planned.now).workspace (planned_text planned.now).words (planned_text planned.now).plan (answer_text answer)) }
+    ensures fault { IfErr result (λ fault. Says fault (IsNoAnswerTo (asked_by (planned_text planned.now).inputs document.now (map rule_text rules.now)) (planned_text planned.now).workspace (planned_text planned.now).words (planned_text planned.now).plan)) }
 {
     let asked = Asked {
         arguments: planned.arguments,
         rules,
         targets: &planned.files.targets,
+        document,
         member_manifests: &planned.files.member_manifests,
     };
     answer_to(
@@ -106,25 +109,29 @@ fn answer_of(
     )
 }
 
-/// Returns the answer to the question of the arguments about the plan, and the warnings. `rules` are those of the policy.
+/// Returns the answer to the question of the arguments about the plan, and the warnings. `document` has the bytes of the document, and `rules`
+/// are those of the policy.
 fn planned_answer(
     alloc: Global,
+    document: &[u8],
     rules: &[Rule<'_>],
     planned: &Planned<'_, '_, '_, '_, '_>,
 ) -> Result<Answered, Fault>
     requires specs { map declared_text planned.now.specs.now ≡ declared_specs (planned_text planned.now).workspace.packages }
     requires plan { IsPlanOf (planned_text planned.now).workspace (planned_text planned.now).words (planned_text planned.now).plan }
-    ensures answer { IfOk result (λ answered. IsPlanAnswer (map rule_text rules.now) (planned_text planned.now) (answered_text answered)) }
-    ensures fault { IfErr result (λ fault. Says fault (IsPlanRefusal (map rule_text rules.now) (planned_text planned.now))) }
+    ensures answer { IfOk result (λ answered. IsPlanAnswer document.now (map rule_text rules.now) (planned_text planned.now) (answered_text answered)) }
+    ensures fault { IfErr result (λ fault. Says fault (IsPlanRefusal document.now (map rule_text rules.now) (planned_text planned.now))) }
 {
     let warnings = warnings_of(alloc, rules, planned)?;
-    let answer = answer_of(alloc, rules, planned)?;
+    let answer = answer_of(alloc, document, rules, planned)?;
     Ok(Answered { answer, warnings })
 }
 
 /// The visitor that answers the question of the arguments about a plan.
 #[derive(Clone, Copy)]
 pub(crate) struct AskedVisitor<'r, 'p> {
+    /// The bytes of the document.
+    pub(crate) document: &'r [u8],
     /// The rules of the policy.
     pub(crate) rules: &'r [Rule<'p>],
 }
@@ -132,15 +139,15 @@ pub(crate) struct AskedVisitor<'r, 'p> {
 impl PlanVisitor for AskedVisitor<'_, '_> {
     type Output = Answered;
 
-    ghost gives = { λ v p answered. IsPlanAnswer (map rule_text v.rules.now) p (answered_text answered) };
+    ghost gives = { λ v p answered. IsPlanAnswer v.document.now (map rule_text v.rules.now) p (answered_text answered) };
 
-    ghost refuses = { λ v p message. IsPlanRefusal (map rule_text v.rules.now) p message };
+    ghost refuses = { λ v p message. IsPlanRefusal v.document.now (map rule_text v.rules.now) p message };
 
     fn visit(
         &self,
         alloc: Global,
         planned: &Planned<'_, '_, '_, '_, '_>,
     ) -> Result<Answered, Fault> {
-        planned_answer(alloc, self.rules, planned)
+        planned_answer(alloc, self.document, self.rules, planned)
     }
 }

@@ -1,5 +1,5 @@
 -- What a search does: nodes without a step get one.
-use Rattle.std.specs.Prelude.{◌≡◌, ◌⊎◌, ℕ, zero, suc, ◌+◌, List, [], ◌∷◌, Option, Some, None, Contains, length}
+use Rattle.std.specs.Prelude.{◌≡◌, ◌⊎◌, ℕ, suc, ◌+◌, List, [], ◌∷◌, Option, Some, None, Contains, length}
 use Rattle.shortest_routes.specs.inner.Steps.{step_at}
 use Rattle.shortest_routes.specs.declared.step.Step.{Step}
 

@@ -38,15 +38,20 @@ returns-in_ok-plan_answer-in-Plan-clause-answer c =
     answers (asked_text c.args.asked) (workspace_text c.args.workspace.now) (words_text holds_on c.args.words.now) (plan_text c.args.plan.now) c.args.asked.arguments.now.question question.Plan
     (Ok c.in_ok-plan_answer-in-Plan.field-0) c.in-Plan.is c.in_ok-plan_answer-in-Plan.ensures
 
-pub returns-in_ok-plan_answer-in-Summary-clause-answer : goal.returns-in_ok-plan_answer-in-Summary-clause-answer
-returns-in_ok-plan_answer-in-Summary-clause-answer c =
+pub returns-in-Summary-clause-answer : goal.returns-in-Summary-clause-answer
+returns-in-Summary-clause-answer c =
     answers (asked_text c.args.asked) (workspace_text c.args.workspace.now) (words_text holds_on c.args.words.now) (plan_text c.args.plan.now) c.args.asked.arguments.now.question question.Summary
-    (Ok c.in_ok-plan_answer-in-Summary.field-0) c.in-Summary.is c.in_ok-plan_answer-in-Summary.ensures
+    c.summary_answer.result c.in-Summary.is c.summary_answer.ensures.answer
+
+pub returns-in-Summary-clause-fault : goal.returns-in-Summary-clause-fault
+returns-in-Summary-clause-fault c =
+    refuses (asked_text c.args.asked) (workspace_text c.args.workspace.now) (words_text holds_on c.args.words.now) (plan_text c.args.plan.now) c.args.asked.arguments.now.question question.Summary
+    c.summary_answer.result c.in-Summary.is c.summary_answer.ensures.fault
 
 pub returns-in-Routes-clause-answer : goal.returns-in-Routes-clause-answer
 returns-in-Routes-clause-answer c =
     answers (asked_text c.args.asked) (workspace_text c.args.workspace.now) (words_text holds_on c.args.words.now) (plan_text c.args.plan.now) c.args.asked.arguments.now.question (question.Routes c.in-Routes.word)
-    c.why_answer.result c.in-Routes.is c.why_answer.ensures.answer
+    c.routes_answer.result c.in-Routes.is c.routes_answer.ensures.answer
 
 pub returns-in-Why-clause-answer : goal.returns-in-Why-clause-answer
 returns-in-Why-clause-answer c =
@@ -61,9 +66,14 @@ returns-in_ok-specs_answer-in-Specs-clause-answer c =
     (Ok c.in_ok-specs_answer-in-Specs.field-0) c.in-Specs.is
     (subst (λ declared. IsPositive (IsSpecText asked.arguments.format declared (places asked.targets words.host words.targets)) (answer_text c.in_ok-specs_answer-in-Specs.field-0)) c.requires.specs c.in_ok-specs_answer-in-Specs.ensures)
 
+pub returns-in_ok-unused_answer-in-Unused-clause-answer : goal.returns-in_ok-unused_answer-in-Unused-clause-answer
+returns-in_ok-unused_answer-in-Unused-clause-answer c =
+    answers (asked_text c.args.asked) (workspace_text c.args.workspace.now) (words_text holds_on c.args.words.now) (plan_text c.args.plan.now) c.args.asked.arguments.now.question question.Unused
+    (Ok c.in_ok-unused_answer-in-Unused.field-0) c.in-Unused.is c.in_ok-unused_answer-in-Unused.ensures
+
 pub returns-in_ok-duplicates_answer-in-Duplicates-clause-answer : goal.returns-in_ok-duplicates_answer-in-Duplicates-clause-answer
 returns-in_ok-duplicates_answer-in-Duplicates-clause-answer c =
-    answers (asked_text c.args.asked) (workspace_text c.args.workspace.now) (words_text holds_on c.args.words.now) (plan_text c.args.plan.now) c.args.asked.arguments.now.question (question.Duplicates c.in-Duplicates.alone)
+    answers (asked_text c.args.asked) (workspace_text c.args.workspace.now) (words_text holds_on c.args.words.now) (plan_text c.args.plan.now) c.args.asked.arguments.now.question (question.Duplicates c.in-Duplicates.alone c.in-Duplicates.places)
     (Ok c.in_ok-duplicates_answer-in-Duplicates.field-0) c.in-Duplicates.is c.in_ok-duplicates_answer-in-Duplicates.ensures
 
 pub returns-in-List-clause-answer : goal.returns-in-List-clause-answer

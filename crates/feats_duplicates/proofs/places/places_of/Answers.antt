@@ -9,5 +9,5 @@ use Rattle.feats_duplicates.proofs.places.places_of.Goals as goal
 pub loop-ix-preserved : goal.loop-ix-preserved
 loop-ix-preserved c =
     let units = map unit_text c.args.units.now in
-    joined_more package_text (λ (p : ℕ) (x : PackageText). places_at units p) c.args.packages.now c.loop-ix.ix c.index-packages-ix.result _ _ _
+    joined_more package_text (λ (p : ℕ) (x : PackageText). places_at c.args.all units p) c.args.packages.now c.loop-ix.ix c.index-packages-ix.result _ _ _
     c.loop-ix-test.true c.index-packages-ix.is c.loop-ix.invariant (c.in_ok-push_package.ensures units c.in_ok-groups.ensures)

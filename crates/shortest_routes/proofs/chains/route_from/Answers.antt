@@ -1,6 +1,4 @@
-use Rattle.std.proofs.Common.{Some, subst}
-use Rattle.shortest_routes.specs.inner.Steps.{AreSteps}
-use Rattle.shortest_routes.proofs.ChainLemmas.{IsBegun, left_at, route_begun, route_next, route_shorter_at}
+use Rattle.shortest_routes.proofs.ChainLemmas.{route_begun, route_next, route_shorter_at}
 use Rattle.shortest_routes.proofs.chains.route_from.Goals as goal
 
 pub loop-at-init : goal.loop-at-init

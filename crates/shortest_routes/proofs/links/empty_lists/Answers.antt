@@ -1,4 +1,4 @@
-use Rattle.std.proofs.Common.{◌≡◌, ◌∙◌, ◌+◌, ap, length, arith}
+use Rattle.std.proofs.Common.{◌∙◌, ◌+◌, ap, length}
 use Rattle.std.proofs.lemmas.List.{length_push}
 use Rattle.shortest_routes.specs.inner.Links.{nodes_before}
 use Rattle.shortest_routes.proofs.LinkLemmas.{before_push}

@@ -1,4 +1,4 @@
-use Rattle.std.proofs.Common.{◌≡◌, ◌∙◌, ◌<◌, ℕ, subst, sym, get_or, Contains}
+use Rattle.std.proofs.Common.{◌∙◌, ◌<◌, subst, sym, get_or, Contains}
 use Rattle.std.proofs.lemmas.List.Elements.{Contains-get_or}
 use Rattle.shortest_routes.proofs.LinkLemmas.{before_more}
 use Rattle.shortest_routes.proofs.ListLemmas.{all_taken, from_taken, none_in}
@@ -22,6 +22,7 @@ loop-link-preserved c = record {
 }
 
 pub returns : goal.returns
-returns c = λ from to.
-    (λ h. from_taken c.args.links.now c.loop-link.link-index (from, to) c.loop-link-test.false ((c.loop-link.invariant.are from to).0 h),
-    λ h. (c.loop-link.invariant.are from to).1 (all_taken c.args.links.now c.loop-link.link-index (from, to) c.loop-link-test.false h))
+returns c = λ from to. (
+  λ h. from_taken c.args.links.now c.loop-link.link-index (from, to) c.loop-link-test.false ((c.loop-link.invariant.are from to).0 h),
+  λ h. (c.loop-link.invariant.are from to).1 (all_taken c.args.links.now c.loop-link.link-index (from, to) c.loop-link-test.false h),
+)

@@ -1,4 +1,4 @@
-use Rattle.std.proofs.Common.{◌≤◌, ◌<◌, arith}
+use Rattle.std.proofs.Common.{◌≤◌, arith}
 use Rattle.shortest_routes.proofs.numbers.node_count.Goals as goal
 
 pub returns-in-Some-clause-links : goal.returns-in-Some-clause-links

@@ -1,4 +1,4 @@
-use Rattle.std.proofs.Common.{List, ℕ, [], None, refl, sym, subst}
+use Rattle.std.proofs.Common.{List, ℕ, None, refl, subst}
 use Rattle.shortest_routes.specs.inner.Searches.{Grows, IsReached}
 use Rattle.shortest_routes.proofs.SearchLemmas.{begun}
 use Rattle.shortest_routes.proofs.search.first_level.Goals as goal

@@ -1,7 +1,7 @@
 use Rattle.std.proofs.Common.{◌<◌, ⊎_elim, ℕ, List, [], get_or, Contains, sym, subst}
 use Rattle.std.proofs.lemmas.List.Elements.{Contains-get_or}
 use Rattle.shortest_routes.specs.inner.Links.{nodes_before}
-use Rattle.shortest_routes.specs.inner.Searches.{Grows, HasStep, IsFrom}
+use Rattle.shortest_routes.specs.inner.Searches.{Grows, IsFrom}
 use Rattle.shortest_routes.proofs.ListLemmas.{all_taken, none_in, taken_cases}
 use Rattle.shortest_routes.proofs.SearchLemmas.{grows_by, grows_none, grows_on}
 use Rattle.shortest_routes.proofs.search.next_level.Goals as goal

@@ -1,7 +1,6 @@
-use Rattle.std.proofs.Common.{◌≡◌, ◌∙◌, ℕ, List, [], ◌∷◌, ◌++◌, Some, None, ap, refl, sym, subst, set, get_or-set_same}
+use Rattle.std.proofs.Common.{◌≡◌, ◌∙◌, ℕ, List, Some, None, ap, sym, subst, set, get_or-set_same}
 use Rattle.shortest_routes.specs.inner.Searches.{Grows}
 use Rattle.shortest_routes.specs.inner.Steps.{step_at}
-use Rattle.shortest_routes.specs.declared.step.Step.{Step}
 use Rattle.shortest_routes.proofs.SearchLemmas.{grows_none, grows_one}
 use Rattle.shortest_routes.proofs.search.reach.Goals as goal
 

@@ -1,4 +1,4 @@
-use Rattle.std.proofs.Common.{◌<◌, ⊎_elim, ℕ, get_or, Contains, sym, subst}
+use Rattle.std.proofs.Common.{◌<◌, ⊎_elim, get_or, Contains, sym, subst}
 use Rattle.std.proofs.lemmas.List.Elements.{Contains-get_or}
 use Rattle.shortest_routes.specs.inner.Searches.{HasStep, IsReached}
 use Rattle.shortest_routes.proofs.ListLemmas.{all_taken, none_in, taken_cases}

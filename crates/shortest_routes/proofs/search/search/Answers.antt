@@ -1,7 +1,6 @@
-use Rattle.std.proofs.Common.{◌≡◌, ◌∙◌, ◌+◌, [], refl, sym, length, true, eqb, vec_len, arith}
+use Rattle.std.proofs.Common.{◌≡◌, ◌∙◌, [], refl, sym, length, vec_len, arith}
 use Rattle.std.proofs.lemmas.Bool.{eqb-true}
 use Rattle.std.proofs.lemmas.List.{nil_from_length}
-use Rattle.shortest_routes.specs.inner.Searches.{blanks}
 use Rattle.shortest_routes.proofs.SearchLemmas.{fewer_left, searched_all, searched_next}
 use Rattle.shortest_routes.proofs.search.search.Goals as goal
 

@@ -17,7 +17,7 @@ returns-clause-answer c =
     IfOk-weaker c.visit_plan.result _ _ (λ a h. record {
       rules = rules;
       are_rules = subst (λ (bytes : Text). AreRules inputs.arguments.question bytes rules) c.deref.ensures.value c.in_ok-rules.ensures.rules;
-      is_answer = subst (λ rs. AfterPlanning inputs c.args.bytes.now (λ p. IsPlanAnswer (map rule_text rs) p (answered_text a))) c.deref-2.ensures.value h;
+      is_answer = subst (λ rs. AfterPlanning inputs c.args.bytes.now (λ p. IsPlanAnswer c.args.bytes.now (map rule_text rs) p (answered_text a))) c.deref-2.ensures.value h;
     }) c.visit_plan.ensures.output
 
 pub returns-clause-fault : goal.returns-clause-fault
@@ -26,5 +26,5 @@ returns-clause-fault c =
     let bytes = c.args.bytes.now in
     let rules = map rule_text c.in_ok-rules.rules.items in
     let are = subst (λ (policy : Text). AreRules inputs.arguments.question policy rules) c.deref.ensures.value c.in_ok-rules.ensures.rules in
-    if_err_more c.visit_plan.result (IsPlanningRefusal inputs bytes (IsPlanRefusal (map rule_text c.deref-2.result.now))) (IsNoAnswer inputs bytes)
-    (λ m h. of_plan rules are (subst (λ rs. IsPlanningRefusal inputs bytes (IsPlanRefusal (map rule_text rs)) m) c.deref-2.ensures.value h)) c.visit_plan.ensures.fault
+    if_err_more c.visit_plan.result (IsPlanningRefusal inputs bytes (IsPlanRefusal bytes (map rule_text c.deref-2.result.now))) (IsNoAnswer inputs bytes)
+    (λ m h. of_plan rules are (subst (λ rs. IsPlanningRefusal inputs bytes (IsPlanRefusal bytes (map rule_text rs)) m) c.deref-2.ensures.value h)) c.visit_plan.ensures.fault
