@@ -12,6 +12,6 @@ loop-name-preserved-in_ok-push c = λ packages units links has.
     let f = version_of packages units links in
     let left = rest_more deref_pair c.loop-name.name-iterator c.next.new.self c.next.result (c.in-Some.name, c.in-Some.numbers) c.in-Some.is c.next.ensures.steps in
     let several = sym (c.are_several.ensures ∙ ap (λ (ns : List ℕ). nat_lt 1 (length ns)) c.deref.ensures.value) ∙ c.if-are_several.true in
-    let are = c.in_ok-versions_at.ensures packages units links has ∙ ap (λ (ns : List ℕ). map f ns) c.deref-2.ensures.value in
+    let are = c.in_ok-versions_at.ensures packages units links has ∙ ap (λ (ns : List ℕ). map f ns) c.deref-then-are_several.ensures.value in
     several_more f _ _ _ _ _ _ _ left several (c.loop-name.invariant packages units links has) are
     (ap (map versions_text) c.in_ok-push.ensures.items ∙ map-append versions_text c.loop-name.list.items _)
