@@ -5,8 +5,9 @@ ghost use Rattle.cargo_workspaces.specs.Views.{package_text};
 ghost use Rattle.feats_lines.specs.Lines.{label_of as label_text};
 ghost use Rattle.feats_lines.specs.Repeats.{HasRepeated};
 ghost use Rattle.feats_duplicate_lines.specs.Lines as spec;
-ghost use Rattle.feats_duplicate_lines.specs.Views.{packages_text};
+ghost use Rattle.feats_duplicate_lines.specs.Views.{dependents_text};
 
+use crate::shown::Dependent;
 use cargo_workspaces::Package;
 use feats_lines::label_of;
 use std::alloc::{AllocError, Global};
@@ -25,18 +26,18 @@ fn push_label(
     text.push_str(label.as_str())
 }
 
-/// Appends the label of each of `packages`, after a comma. `repeated` is the set of the names that several packages have.
+/// Appends the label of each of `dependents`, after a comma. `repeated` is the set of the names that several packages have.
 fn push_more(
     alloc: Global,
     text: &mut String,
     repeated: &BTreeSet<&str>,
-    packages: &[&Package<'_>],
+    dependents: &[Dependent<'_, '_>],
 ) -> Result<(), AllocError>
-    ensures { (names : List Text) → HasRepeated repeated.now names → OnOk result (string_bytes text.new ≡ string_bytes text.old ++ flat_map (spec.label_more names) (packages_text packages.now)) }
+    ensures { (names : List Text) → HasRepeated repeated.now names → OnOk result (string_bytes text.new ≡ string_bytes text.old ++ flat_map (spec.label_more names) (dependents_text dependents.now)) }
 {
-    for package in packages {
+    for dependent in dependents {
         text.push_str(", ")?;
-        push_label(alloc, text, repeated, package)?;
+        push_label(alloc, text, repeated, dependent.package)?;
     }
     Ok(())
 }
@@ -46,9 +47,9 @@ fn asked_by_some(
     alloc: Global,
     repeated: &BTreeSet<&str>,
     first: &Package<'_>,
-    more: &[&Package<'_>],
+    more: &[Dependent<'_, '_>],
 ) -> Result<String, AllocError>
-    ensures { (names : List Text) → HasRepeated repeated.now names → IfOk result (λ text. string_bytes text ≡ spec.asked_by names (package_text first.now ∷ packages_text more.now)) }
+    ensures { (names : List Text) → HasRepeated repeated.now names → IfOk result (λ text. string_bytes text ≡ spec.asked_by names (package_text first.now ∷ dependents_text more.now)) }
 {
     let mut text = String::from_str(alloc, "asked by ")?;
     push_label(alloc, &mut text, repeated, first)?;
@@ -61,12 +62,12 @@ fn asked_by_some(
 pub(crate) fn asked_by(
     alloc: Global,
     repeated: &BTreeSet<&str>,
-    dependents: &[&Package<'_>],
+    dependents: &[Dependent<'_, '_>],
 ) -> Result<String, AllocError>
-    ensures { (names : List Text) → HasRepeated repeated.now names → IfOk result (λ text. string_bytes text ≡ spec.asked_by names (packages_text dependents.now)) }
+    ensures { (names : List Text) → HasRepeated repeated.now names → IfOk result (λ text. string_bytes text ≡ spec.asked_by names (dependents_text dependents.now)) }
 {
     match dependents {
         [] => String::from_str(alloc, "selected"),
-        [first, more @ ..] => asked_by_some(alloc, repeated, first, more),
+        [first, more @ ..] => asked_by_some(alloc, repeated, first.package, more),
     }
 }

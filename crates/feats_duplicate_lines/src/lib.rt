@@ -17,5 +17,5 @@ pub use feats_duplicates::{
 };
 pub use gathered::all_shown;
 pub use objects::duplicate_objects;
-pub use shown::Shown;
+pub use shown::{Dependent, Shown};
 pub use table::duplicate_lines;

@@ -3,24 +3,24 @@ ghost use Rattle.std.specs.Prelude.{◌≡◌, ◌++◌, ◌∷◌, [], IfOk, On
 ghost use Rattle.cargo_workspaces.specs.Views.{package_text, texts};
 ghost use Rattle.feats_duplicates.specs.Views.{member_plan_text, outcome_text, placed_text, places_text, version_text, versions_text};
 ghost use Rattle.feats_duplicate_lines.specs.Shown as spec;
-ghost use Rattle.feats_duplicate_lines.specs.Views.{packages_text, shown_text};
+ghost use Rattle.feats_duplicate_lines.specs.Views.{dependents_text, shown_text};
 
 use crate::place_names::place_name;
-use crate::shown::{Shown, package_at, push_shown};
+use crate::shown::{Dependent, Shown, package_at, push_shown};
 use cargo_workspaces::Package;
 use feats_duplicates::{MemberPlan, Outcome, PlaceFeatures, Places, Version, Versions};
 use std::alloc::{AllocError, Global};
 
 /// Appends the package with the number `number`, if there is one.
 fn push_at<'u, 'v>(
-    list: &mut Vec<&'u Package<'v>>,
+    list: &mut Vec<Dependent<'u, 'v>>,
     packages: &'u [Package<'v>],
     number: usize,
 ) -> Result<(), AllocError>
-    ensures { OnOk result (packages_text list.new.items ≡ packages_text list.old.items ++ spec.about (map package_text packages.now) (λ x. x ∷ []) number) }
+    ensures { OnOk result (dependents_text list.new.items ≡ dependents_text list.old.items ++ spec.about (map package_text packages.now) (λ x. x ∷ []) number) }
 {
     if let Some(package) = package_at(packages, number) {
-        list.push(package)?;
+        list.push(Dependent { package })?;
     }
     Ok(())
 }
@@ -30,8 +30,8 @@ fn packages_at<'u, 'v>(
     alloc: Global,
     packages: &'u [Package<'v>],
     numbers: &[usize],
-) -> Result<Vec<&'u Package<'v>>, AllocError>
-    ensures { IfOk result (λ list. packages_text list.items ≡ spec.packages_at (map package_text packages.now) numbers.now) }
+) -> Result<Vec<Dependent<'u, 'v>>, AllocError>
+    ensures { IfOk result (λ list. dependents_text list.items ≡ spec.packages_at (map package_text packages.now) numbers.now) }
 {
     let mut list = Vec::with_capacity(alloc, numbers.len())?;
     for number in numbers {

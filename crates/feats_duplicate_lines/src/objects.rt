@@ -3,11 +3,11 @@ ghost use Rattle.std.specs.Prelude.{◌≡◌, ◌++◌, IfOk, OnOk, map, flat_m
 ghost use Rattle.cargo_workspaces.specs.Views.{package_text, texts};
 ghost use Rattle.feats_lines.specs.parts.Members.{Appends};
 ghost use Rattle.feats_duplicate_lines.specs.Objects as spec;
-ghost use Rattle.feats_duplicate_lines.specs.Views.{packages_text, shown_text};
+ghost use Rattle.feats_duplicate_lines.specs.Views.{dependents_text, shown_text};
 
 use crate::manifest_lines::manifest_line;
 use crate::rows::{kind_of, package_of};
-use crate::shown::Shown;
+use crate::shown::{Dependent, Shown};
 use cargo_workspaces::Package;
 use feats_lines::parts::{begin_line, end_line, write_flag, write_member, write_texts};
 use json::Writer;
@@ -61,13 +61,13 @@ fn write_joined(
     write_flag(writer, "agrees", agrees)
 }
 
-/// Returns the id of each of `packages`.
-fn ids_of<'v>(alloc: Global, packages: &[&Package<'v>]) -> Result<Vec<&'v str>, AllocError>
-    ensures { IfOk result (λ ids. texts ids.items ≡ map (λ p. p.id) (packages_text packages.now)) }
+/// Returns the ids of the packages `dependents`.
+fn ids_of<'v>(alloc: Global, dependents: &[Dependent<'_, 'v>]) -> Result<Vec<&'v str>, AllocError>
+    ensures { IfOk result (λ ids. texts ids.items ≡ map (λ p. p.id) (dependents_text dependents.now)) }
 {
-    let mut ids = Vec::with_capacity(alloc, packages.len())?;
-    for package in packages {
-        ids.push(package.id)?;
+    let mut ids = Vec::with_capacity(alloc, dependents.len())?;
+    for dependent in dependents {
+        ids.push(dependent.package.id)?;
     }
     Ok(ids)
 }
@@ -76,9 +76,9 @@ fn ids_of<'v>(alloc: Global, packages: &[&Package<'v>]) -> Result<Vec<&'v str>, 
 fn write_version(
     alloc: Global,
     writer: &mut Writer,
-    dependents: &[&Package<'_>],
+    dependents: &[Dependent<'_, '_>],
 ) -> Result<(), AllocError>
-    ensures { OnOk result (Appends writer.old writer.new (spec.version_members (packages_text dependents.now))) }
+    ensures { OnOk result (Appends writer.old writer.new (spec.version_members (dependents_text dependents.now))) }
 {
     let ids = ids_of(alloc, dependents)?;
     write_texts(writer, "dependents", &ids)

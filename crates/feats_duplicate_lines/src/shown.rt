@@ -6,13 +6,19 @@ ghost use Rattle.feats_duplicate_lines.specs.Views.{shown_text};
 use cargo_workspaces::Package;
 use std::alloc::AllocError;
 
+/// A package that depends on another.
+#[derive(Clone, Copy)]
+pub struct Dependent<'u, 'v> {
+    pub package: &'u Package<'v>,
+}
+
 /// A line about a package that is built several times.
 #[derive(Drop)]
 pub enum Shown<'u, 'v, 'w> {
-    /// One of several packages of one name that are built, and the other packages that depend on it.
+    /// One of several packages of one name that are built, and those that depend on it.
     Version {
         package: &'u Package<'v>,
-        dependents: Vec<&'u Package<'v>>,
+        dependents: Vec<Dependent<'u, 'v>>,
     },
     /// A package in one of several places.
     InPlace {
