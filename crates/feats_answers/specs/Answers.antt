@@ -5,7 +5,7 @@ use Rattle.cargo_plans.specs.Plans.{WordsText}
 use Rattle.plan_names.specs.Faults.{package_named}
 use Rattle.plan_rows.specs.platforms.DeclaredSpecs.{declared_specs}
 use Rattle.cargo_plans.specs.plan_steps.Plans.{PlanText}
-use Rattle.feats_words.specs.Requests.{QuestionText, check, dot, duplicates, list, plan, report, routes, slim, specs, summary, tree, why, why_not}
+use Rattle.feats_words.specs.Requests.{QuestionText, check, dot, duplicates, list, plan, report, routes, slim, specs, summary, tree, unused, why, why_not}
 use Rattle.feats_answers.specs.AnswerTexts.{AnswerText}
 pub use Rattle.feats_answers.specs.AnswerTexts.{IsPositive}
 use Rattle.feats_answers.specs.Asked.{AskedText}
@@ -21,6 +21,7 @@ use Rattle.feats_answers.specs.RouteTexts.{IsRoutesAnswer}
 use Rattle.feats_answers.specs.SlimTexts.{IsNoSlim, IsSlimBy}
 use Rattle.feats_answers.specs.SpecTexts.{IsSpecText, places}
 use Rattle.feats_answers.specs.SummaryTexts.{IsNoSummary, IsSummaryText}
+use Rattle.feats_answers.specs.UnusedTexts.{IsUnusedText}
 use Rattle.feats_answers.specs.WhyNotTexts.{IsWhyNotAnswer}
 use Rattle.feats_answers.specs.WhyParts.{IsWhyRefusal}
 use Rattle.feats_answers.specs.WhyTexts.{IsWhyAnswer}

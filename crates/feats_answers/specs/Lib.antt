@@ -18,6 +18,7 @@ pub mod SlimTexts
 pub mod SpecTexts
 pub mod SummaryTexts
 pub mod TreeTexts
+pub mod UnusedTexts
 pub mod WhyNotTexts
 pub mod WhyParts
 pub mod WhyTexts

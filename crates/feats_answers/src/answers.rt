@@ -21,6 +21,7 @@ ghost use Rattle.feats_answers.specs.PlanTexts.{text_of_units};
 ghost use Rattle.feats_answers.specs.ReportTexts.{IsReportText};
 ghost use Rattle.feats_answers.specs.SlimTexts.{IsNoSlim, IsSlimBy};
 ghost use Rattle.feats_answers.specs.SpecTexts.{IsSpecText, places};
+ghost use Rattle.feats_answers.specs.UnusedTexts.{IsUnusedText};
 ghost use Rattle.feats_answers.specs.WhyNotTexts.{IsWhyNotAnswer};
 ghost use Rattle.feats_answers.specs.WhyParts.{IsWhyRefusal};
 ghost use Rattle.feats_answers.specs.WhyTexts.{IsWhyAnswer};
@@ -40,6 +41,7 @@ use crate::route_texts::routes_answer;
 use crate::slim_texts::slim_text;
 use crate::spec_texts::spec_text;
 use crate::summary_texts::summary_answer;
+use crate::unused_texts::unused_text;
 use crate::why_parts::why_parts_of;
 use crate::why_texts::{WhyQuestion, why_answer_of};
 use cargo_plans::{Plan, PlanWords};
@@ -96,6 +98,18 @@ fn list_answer(
     }
 }
 
+/// Returns the answer to `list --unused`.
+fn unused_answer(
+    alloc: Global,
+    format: Format,
+    workspace: &Workspace<'_>,
+) -> Result<Answer, AllocError>
+    ensures { IfOk result (λ answer. IsPositive (IsUnusedText format (workspace_text workspace.now)) (answer_text answer)) }
+{
+    let text = unused_text(alloc, format, workspace)?;
+    Ok(positive(text))
+}
+
 /// Returns the answer to `duplicates`.
 fn duplicates_answer<'w>(
     alloc: Global,
@@ -103,7 +117,7 @@ fn duplicates_answer<'w>(
     files: &[PlatformFile<'_>],
     workspace: &'w Workspace<'_>,
     words: &PlanWords<'w, '_, HeldSpecs<'_>>,
-    plan: &Plan<'_>,
+    plan: &Plan<'w>,
 ) -> Result<Answer, AllocError>
     ensures { IfOk result (λ answer. IsPositive (IsDuplicatesText asked.format asked.alone asked.places (map file_text files.now) (workspace_text workspace.now) (words_text holds_on words.now) (plan_text plan.now)) (answer_text answer)) }
 {
@@ -219,13 +233,14 @@ pub fn answer_to<'w, 'n, 's>(
             let split = words.selection.split;
             list_answer(alloc, format, workspace, split, plan, word)
         }
+        Question::Unused => Ok(unused_answer(alloc, format, workspace)?),
         Question::Duplicates { alone, places } => {
-            let asked = DuplicatesQuestion {
+            let how = DuplicatesQuestion {
                 format,
                 alone,
                 places,
             };
-            Ok(duplicates_answer(alloc, asked, files, workspace, words, plan)?)
+            Ok(duplicates_answer(alloc, how, files, workspace, words, plan)?)
         }
         Question::Tree { invert } => {
             answer_to_edge_tree(alloc, asked, workspace, words, plan, invert)

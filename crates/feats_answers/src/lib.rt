@@ -22,6 +22,7 @@ mod slim_texts;
 mod spec_texts;
 mod summary_texts;
 mod tree_texts;
+mod unused_texts;
 mod why_parts;
 mod why_texts;
 

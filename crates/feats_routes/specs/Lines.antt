@@ -33,10 +33,16 @@ abbrev pub rows_from : ShownText → Option ℕ → List ℕ → List RowText
 rows_from s before [] = []
 rows_from s before (node ∷ nodes) = row_of s before node ∷ rows_from s (Some node) nodes
 
--- The line of a member: its name and version, with the source if several packages share both.
+abbrev pub table_of_nodes : ShownText → List ℕ → Text
+table_of_nodes s nodes = table_of (rows_from s None nodes)
+
+-- What a member is called: its name and version, with the source if several packages share both.
+abbrev pub member_label : ShownText → ℕ → Text
+member_label s p = option_map_or (λ x. escaped (label_of (map name_of s.packages) x)) (slice_get s.packages p) []
+
 abbrev pub head : ShownText → ℕ → Text
-head s p = option_map_or (λ x. escaped (label_of (map name_of s.packages) x)) (slice_get s.packages p) [] ++ codes " (the member)\n"
+head s p = member_label s p ++ codes " (the member)\n"
 
 -- The lines of a route: the member, then a line for each unit, with the reason why it is in the build.
 abbrev pub route_lines : ShownText → RouteText → Text
-route_lines s r = head s r.owner ++ table_of (rows_from s None r.nodes)
+route_lines s r = head s r.owner ++ table_of_nodes s r.nodes

@@ -1,5 +1,5 @@
 //! How a package depends on another: the kind of a declaration that counts.
-ghost use Rattle.std.specs.Prelude.{◌≡◌, map, option_map};
+ghost use Rattle.std.specs.Prelude.{◌≡◌, false, map, option_map, slice_get, unwrap_or};
 ghost use Rattle.std.specs.List.{list_any};
 ghost use Rattle.cargo_plans.specs.plan_steps.PlanViews.{plan_text};
 ghost use Rattle.cargo_plans.specs.plan_units.UnitViews.{unit_text};
@@ -13,7 +13,7 @@ use crate::shown::Shown;
 use cargo_plans::plan_steps::{Place, Plan, Unit};
 use cargo_workspaces::{Declaration, Kind, Package};
 use feats_why::WhySettings;
-use plan_rows::rules::{admits, host_side, is_macro_at};
+use plan_rows::rules::{host_side, is_macro_at};
 use plan_rows::{Platform, Side, TurnedOn};
 
 /// Returns the side whose features `place` has.
@@ -26,6 +26,26 @@ fn side_at(split: bool, place: Place) -> Side
     }
 }
 
+/// Returns whether the platform spec `text` holds on the target platform with this number; false, if there is none.
+fn holds_on<P: Platform>(targets: &[P], number: usize, text: &str) -> bool
+    ensures { result ≡ unwrap_or (slice_get (map P.holds targets.now) number) (λ t. false) text.now }
+{
+    match targets.get(number) {
+        Some(target) => target.holds(text),
+        None => false,
+    }
+}
+
+/// Returns whether the platform spec `text` holds for `place`.
+fn holds_at<P: Platform>(settings: &WhySettings<'_, P>, place: Place, text: &str) -> bool
+    ensures { result ≡ spec.holds_at (settings_text P.holds settings.now) place text.now }
+{
+    match place {
+        Place::Host => settings.host.holds(text),
+        Place::Target(number) => holds_on(settings.targets, number, text),
+    }
+}
+
 /// Returns whether the platform spec of a declaration, if it has one, holds for `place`.
 fn admits_at<P: Platform>(
     settings: &WhySettings<'_, P>,
@@ -34,12 +54,9 @@ fn admits_at<P: Platform>(
 ) -> bool
     ensures { result ≡ admits_spec (spec.holds_at (settings_text P.holds settings.now) place) (option_map (λ t. t.now) platform.entry) }
 {
-    match place {
-        Place::Host => admits(settings.host, platform),
-        Place::Target(number) => match settings.targets.get(number) {
-            Some(target) => admits(target, platform),
-            None => platform.is_none(),
-        },
+    match platform {
+        Some(text) => holds_at(settings, place, text),
+        None => true,
     }
 }
 
@@ -97,7 +114,9 @@ fn is_on(split: bool, plan: &Plan<'_>, from: &Unit<'_>, declaration: &Declaratio
     ensures { result ≡ spec.is_required_or_on split (plan_text plan.now) (unit_text from.now) (declaration_text declaration.now) }
 {
     !declaration.optional
-        || plan.on().is_on(side_at(split, from.place), from.package, declaration.name)
+        || plan
+            .on()
+            .is_on(side_at(split, from.place), from.package, declaration.name)
 }
 
 /// Returns whether `kind` is the kind for builds, if `build`, or else the normal one.
@@ -183,11 +202,7 @@ fn kind_between<P: Platform>(shown: &Shown<'_, '_, '_, P>, from: &Unit<'_>, to: 
 }
 
 /// Returns the kind by which the unit with number `from` depends on the one with number `to`.
-pub(crate) fn kind_of<P: Platform>(
-    shown: &Shown<'_, '_, '_, P>,
-    from: usize,
-    to: usize,
-) -> Kind
+pub(crate) fn kind_of<P: Platform>(shown: &Shown<'_, '_, '_, P>, from: usize, to: usize) -> Kind
     ensures { result ≡ spec.kind_of (shown_text P.holds shown.now) from to }
 {
     let units = shown.plan.units();

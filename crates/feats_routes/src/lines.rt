@@ -97,7 +97,27 @@ fn rows_of<P: Platform>(
     Ok(rows)
 }
 
-/// Appends the line of the member with number `owner`: its label. `repeated` are the names with versions that several packages have.
+/// Returns the label of the member with number `owner`; an empty text, if there is none. `repeated` are the names with versions that several
+/// packages have.
+fn member_label<P: Platform>(
+    alloc: Global,
+    repeated: &BTreeSet<&str>,
+    shown: &Shown<'_, '_, '_, P>,
+    owner: usize,
+) -> Result<String, AllocError>
+    requires { HasRepeated repeated.now (map name_of (shown_text P.holds shown.now).packages) }
+    ensures { IfOk result (λ label. string_bytes label ≡ spec.member_label (shown_text P.holds shown.now) owner) }
+{
+    match shown.packages.get(owner) {
+        Some(package) => {
+            let label = label_of(alloc, repeated, package)?;
+            escaped(alloc, label.as_str())
+        }
+        None => Ok(String::new(alloc)),
+    }
+}
+
+/// Appends the line of the member with number `owner`.
 fn push_head<P: Platform>(
     alloc: Global,
     text: &mut String,
@@ -108,12 +128,21 @@ fn push_head<P: Platform>(
     requires { HasRepeated repeated.now (map name_of (shown_text P.holds shown.now).packages) }
     ensures { OnOk result (string_bytes text.new ≡ string_bytes text.old ++ spec.head (shown_text P.holds shown.now) owner) }
 {
-    if let Some(package) = shown.packages.get(owner) {
-        let label = label_of(alloc, repeated, package)?;
-        let label = escaped(alloc, label.as_str())?;
-        text.push_str(label.as_str())?;
-    }
+    let label = member_label(alloc, repeated, shown, owner)?;
+    text.push_str(label.as_str())?;
     text.push_str(" (the member)\n")
+}
+
+/// Returns the table of `nodes`.
+fn table_of_nodes<P: Platform>(
+    alloc: Global,
+    shown: &Shown<'_, '_, '_, P>,
+    nodes: &[usize],
+) -> Result<String, AllocError>
+    ensures { IfOk result (λ text. string_bytes text ≡ spec.table_of_nodes (shown_text P.holds shown.now) nodes.now) }
+{
+    let rows = rows_of(alloc, shown, nodes)?;
+    table_of(alloc, &rows)
 }
 
 /// Appends the lines of `route`.
@@ -128,8 +157,7 @@ fn push_route<P: Platform>(
     ensures { OnOk result (string_bytes text.new ≡ string_bytes text.old ++ spec.route_lines (shown_text P.holds shown.now) (route_text route.now)) }
 {
     push_head(alloc, text, repeated, shown, route.owner)?;
-    let rows = rows_of(alloc, shown, &route.nodes)?;
-    let table = table_of(alloc, &rows)?;
+    let table = table_of_nodes(alloc, shown, &route.nodes)?;
     text.push_str(table.as_str())
 }
 

@@ -3,9 +3,11 @@ ghost use Rattle.std.specs.Prelude.{◌≡◌, ◌==◌, ◌++◌, ◌∷◌, []
 ghost use Rattle.cargo_plans.specs.WordsView.{words_text};
 ghost use Rattle.cargo_plans.specs.plan_steps.PlanViews.{plan_text};
 ghost use Rattle.cargo_plans.specs.plan_units.UnitViews.{unit_text};
-ghost use Rattle.cargo_workspaces.specs.Views.{texts};
+ghost use Rattle.cargo_workspaces.specs.Views.{package_text, texts};
 ghost use Rattle.cargo_workspaces.specs.WorkspaceView.{workspace_text};
 ghost use Rattle.feats_tree.specs.packages.Trees.{units_of as units_of_package};
+ghost use Rattle.feats_tree.specs.trees.Titles.{title_text};
+ghost use Rattle.feats_why.specs.Settings.{settings_text};
 ghost use Rattle.shortest_routes.specs.Routes.{route_text};
 ghost use Rattle.feats_routes.specs.Routes as spec;
 ghost use Rattle.feats_routes.specs.Shown.{shown_text};
@@ -13,12 +15,13 @@ ghost use Rattle.feats_routes.specs.Shown.{shown_text};
 use crate::lines::route_lines;
 use crate::objects::route_objects;
 use crate::shown::Shown;
-use cargo_plans::plan_steps::{Plan, Unit};
 use cargo_plans::PlanWords;
-use cargo_workspaces::Workspace;
+use cargo_plans::plan_steps::{Plan, Unit};
+use cargo_workspaces::{Package, Workspace};
 use feats_lines::{names_of, repeated_in};
 use feats_tree::packages::{details_of, titles_of, titles_with};
-use feats_why::settings_of;
+use feats_tree::trees::Title;
+use feats_why::{WhySettings, settings_of};
 use feats_words::Format;
 use plan_rows::Platform;
 use plan_whys::links::{root_units, unit_links};
@@ -73,6 +76,23 @@ fn routes_to(alloc: Global, plan: &Plan<'_>, package: usize) -> Result<Vec<Route
     shortest_routes(alloc, &links, &targets, &owners, &roots)
 }
 
+/// Returns what routes are shown by.
+fn shown_by<'u, 'v, 'w, P: Platform>(
+    settings: WhySettings<'u, P>,
+    packages: &'u [Package<'v>],
+    plan: &'u Plan<'w>,
+    titles: &'u [Title<'u>],
+) -> Shown<'u, 'v, 'w, P>
+    ensures { shown_text P.holds result ≡ record { settings = settings_text P.holds settings.entry; packages = map package_text packages.entry.now; plan = plan_text plan.entry.now; titles = map title_text titles.entry.now } }
+{
+    Shown {
+        settings,
+        packages,
+        plan,
+        titles,
+    }
+}
+
 /// Returns the text of `routes`.
 fn text_of<P: Platform>(
     alloc: Global,
@@ -108,14 +128,9 @@ pub fn routes_text<P: Platform>(
 {
     let routes = routes_to(alloc, plan, package)?;
     let packages = workspace.packages();
-    let titles = titles_of(alloc, names, packages, plan.units())?;
+    let unit_titles = titles_of(alloc, names, packages, plan.units())?;
     let details = details_of(alloc, names, packages, plan.units())?;
-    let titles = titles_with(alloc, &titles, &details)?;
-    let shown = Shown {
-        settings: settings_of(words),
-        packages,
-        plan,
-        titles: &titles,
-    };
+    let titles = titles_with(alloc, &unit_titles, &details)?;
+    let shown = shown_by(settings_of(words), packages, plan, &titles);
     text_of(alloc, form, &shown, &routes)
 }

@@ -1,6 +1,6 @@
 -- Maps of texts, by their entries.
-use Rattle.std.proofs.Common.{◌≡◌, ◌∙◌, sym, ap, refl, ℕ, ◌+◌, ◌<◌, List, [], ◌∷◌, length, drop, get_or, Bool, true, false, cond, add-one, drop-cons, Bor}
-use Rattle.std.specs.Prelude.{Option, Some, None, option_map}
+use Rattle.std.proofs.Common.{◌≡◌, sym, ap, refl, ℕ, suc, ◌+◌, ◌<◌, List, [], ◌∷◌, length, drop, get_or, Bool, true, false, cond, add-one, drop-cons, Bor}
+use Rattle.std.specs.Prelude.{Option, Some, option_map}
 use Rattle.std.specs.Ordering.{nat_cmp, is_eq, match_ordering}
 use Rattle.std.specs.declared.cmp.Ordering.{Ordering}
 use Rattle.std.specs.declared.cmp.Ordering.TheVariants.{Less, Equal, Greater}
@@ -11,11 +11,12 @@ use Rattle.std.specs.BTreeMap.{insert_entry}
 use Rattle.std.specs.BTreeSet.{insert_key}
 use Rattle.std.proofs.lemmas.Map.Text.{is_eq-slice_cmp}
 use Rattle.std.specs.declared.alloc.Global.{Global}
-use Rattle.json.specs.Json.{Items, item}
+use Rattle.json.specs.Json.{item}
 use Rattle.json.specs.Value.{value_view, items_view}
 use Rattle.json.specs.declared.value.Value.{Value}
 use Rattle.cargo_workspaces.specs.Views.{texts}
 use Rattle.cargo_workspaces.specs.Workspaces.{Text, text_cmp}
+use Rattle.feats_summary.specs.Packages.{sorted}
 use Rattle.feats_summary.specs.inner.Views.{entry_texts}
 
 -- the order of keys
@@ -56,3 +57,10 @@ pub item_at : (vs : List (Value Global)) (i : ℕ) (v : Value Global) → i < le
 item_at vs i v within is =
     let d : drop i vs ≡ get_or vs i v ∷ drop (i + 1) vs = rw (add-one, drop-cons vs i v within) refl in
     rw d (ap (λ x. item (value_view x) (items_view (drop (i + 1) vs))) (sym is))
+
+-- a name that is inserted into a set before those after it
+pub inserted_next : (names : List (Bor Text)) (i : ℕ) (d k : Bor Text) (ks new : List (Bor Text)) → i < length names → k ≡ get_or names i d → new ≡ insert_key key_cmp ks k
+    → sorted (texts ks) (texts (drop i names)) ≡ sorted (texts new) (texts (drop (i + 1) names))
+inserted_next names i d k ks new within is by =
+    let next : drop i names ≡ k ∷ drop (i + 1) names = rw (add-one, drop-cons names i d within) (ap (λ x. x ∷ drop (suc i) names) (sym is)) in
+    rw (next, by) (ap (λ all. sorted all (texts (drop (i + 1) names))) (sym (insert_key_texts ks k)))

@@ -65,7 +65,7 @@ side_at split place.Host = side_of split true
 side_at split (place.Target k) = Target
 
 -- Package `x` of a unit. `is_direct` is whether a member depends on the unit.
-abbrev pub package_of : KnownText → Bool → UnitText → PackageText → summaries.PackageText
+unfoldable pub package_of : KnownText → Bool → UnitText → PackageText → summaries.PackageText
 package_of known is_direct u x = record {
   name = x.name;
   version = x.version;

@@ -1,5 +1,5 @@
 -- Where packages are: what a document says of their manifests.
-use Rattle.std.specs.Prelude.{List, [], Option, None, Some, codes, option_and_then, unwrap_or}
+use Rattle.std.specs.Prelude.{List, [], Option, Some, codes, option_and_then, unwrap_or}
 use Rattle.std.specs.BTreeMap.{insert_entry}
 use Rattle.std.specs.Map.{lookup}
 use Rattle.std.specs.Str.{bytes_eq}

@@ -1,5 +1,5 @@
 //! The packages of a summary.
-ghost use Rattle.std.specs.Prelude.{◌≡◌, ◌++◌, [], IfOk, OnOk, filter, length, map};
+ghost use Rattle.std.specs.Prelude.{◌≡◌, ◌++◌, [], IfOk, OnOk, filter, length, map, option_map, slice_get};
 ghost use Rattle.build_summaries.specs.Views as summaries;
 ghost use Rattle.cargo_plans.specs.plan_units.UnitViews.{unit_text};
 ghost use Rattle.cargo_workspaces.specs.Views.{declaration_text, package_text, texts};
@@ -94,12 +94,7 @@ fn source_of<'w>(
 }
 
 /// Returns whether `declaration` of package `ix` is an optional dependency that is on, on `side`.
-fn is_optional_on(
-    on: &PackageVisit,
-    side: Side,
-    ix: usize,
-    declaration: &Declaration<'_>,
-) -> bool
+fn is_optional_on(on: &PackageVisit, side: Side, ix: usize, declaration: &Declaration<'_>) -> bool
     ensures { result ≡ spec.is_optional_on on.now side ix (declaration_text declaration.now) }
 {
     declaration.optional && on.is_on(side, ix, declaration.name)
@@ -125,7 +120,6 @@ fn names_on<'v>(
 }
 
 /// Returns the set of `names`.
-#[tactic(auto, using(crate::proofs::Entries::insert_key_texts))]
 fn set_of<'v>(alloc: Global, names: &[&'v str]) -> Result<BTreeSet<&'v str>, AllocError>
     ensures { IfOk result (λ set. texts set.keys ≡ spec.sorted [] (texts names.now)) }
 {
@@ -173,6 +167,7 @@ fn side_at(split: bool, place: Place) -> Side
 }
 
 /// Returns `package` as it is built by `unit`. `is_direct` is whether a member depends on the unit.
+#[tactic(auto, unfolding(crate::specs::Packages::package_of))]
 fn package_of<'w>(
     alloc: Global,
     known: Known<'_, '_, 'w, '_>,
@@ -201,6 +196,13 @@ fn package_of<'w>(
     })
 }
 
+/// Returns package `number`, if there is one.
+fn package_numbered<'w, 'v>(packages: &'w [Package<'v>], number: usize) -> Option<&'w Package<'v>>
+    ensures { option_map (λ p. package_text p.now) result ≡ slice_get (map package_text packages.now) number }
+{
+    packages.get(number)
+}
+
 /// Appends the package of `unit`.
 fn push_package<'w>(
     alloc: Global,
@@ -211,7 +213,7 @@ fn push_package<'w>(
 ) -> Result<(), AllocError>
     ensures { OnOk result (map summaries.package_text packages.new.items ≡ map summaries.package_text packages.old.items ++ spec.package_at (known_text known.entry) is_direct (unit_text unit.now)) }
 {
-    if let Some(package) = known.packages.get(unit.package) {
+    if let Some(package) = package_numbered(known.packages, unit.package) {
         packages.push(package_of(alloc, known, is_direct, unit, package)?)?;
     }
     Ok(())

@@ -66,6 +66,11 @@ returns-in_ok-specs_answer-in-Specs-clause-answer c =
     (Ok c.in_ok-specs_answer-in-Specs.field-0) c.in-Specs.is
     (subst (λ declared. IsPositive (IsSpecText asked.arguments.format declared (places asked.targets words.host words.targets)) (answer_text c.in_ok-specs_answer-in-Specs.field-0)) c.requires.specs c.in_ok-specs_answer-in-Specs.ensures)
 
+pub returns-in_ok-unused_answer-in-Unused-clause-answer : goal.returns-in_ok-unused_answer-in-Unused-clause-answer
+returns-in_ok-unused_answer-in-Unused-clause-answer c =
+    answers (asked_text c.args.asked) (workspace_text c.args.workspace.now) (words_text holds_on c.args.words.now) (plan_text c.args.plan.now) c.args.asked.arguments.now.question question.Unused
+    (Ok c.in_ok-unused_answer-in-Unused.field-0) c.in-Unused.is c.in_ok-unused_answer-in-Unused.ensures
+
 pub returns-in_ok-duplicates_answer-in-Duplicates-clause-answer : goal.returns-in_ok-duplicates_answer-in-Duplicates-clause-answer
 returns-in_ok-duplicates_answer-in-Duplicates-clause-answer c =
     answers (asked_text c.args.asked) (workspace_text c.args.workspace.now) (words_text holds_on c.args.words.now) (plan_text c.args.plan.now) c.args.asked.arguments.now.question (question.Duplicates c.in-Duplicates.alone c.in-Duplicates.places)

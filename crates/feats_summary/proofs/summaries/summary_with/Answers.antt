@@ -7,7 +7,7 @@ use Rattle.digraphs.specs.Bits.{has}
 use Rattle.feats_summary.specs.Packages.{packages_by}
 use Rattle.feats_summary.specs.Summaries.{is_direct}
 use Rattle.feats_summary.specs.inner.Views.{known_text}
-use Rattle.feats_summary.proofs.Packages.{same_packages}
+use Rattle.feats_summary.proofs.SamePackages.{same_packages}
 use Rattle.feats_summary.proofs.summaries.summary_with.Goals as goal
 use Rattle.std.specs.Prelude.{Bool, false, true}
 
@@ -18,7 +18,7 @@ returns c =
     let test : ℕ → Bool = is_direct known.members units c.args.links.now in
     let marks : ℕ → Bool = has c.in_ok-direct.direct in
     let agree : (k : ℕ) → k < length units → marks k ≡ test k =
-        λ k below. c.in_ok-direct.ensures.marks k (subst (λ n. k < n) (length-map c.args.units.now unit_text) below) in
+    λ k below. c.in_ok-direct.ensures.marks k (subst (λ n. k < n) (length-map c.args.units.now unit_text) below) in
     let targets = c.in_ok-targets.ensures ∙ same_packages known marks test false units agree in
     let hosts = c.in_ok-hosts.ensures ∙ same_packages known marks test true units agree in
     let text = c.in_ok-text.text.items in

@@ -1,0 +1,4 @@
+pub mod Lists
+pub mod MarkLemmas
+pub mod Sorted
+pub mod UnusedLemmas
