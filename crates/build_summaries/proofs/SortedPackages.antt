@@ -29,7 +29,7 @@ kept_or_not : {X Y : Type 0} (f : X → Y) (b : Bool) (x : X) (xs : List X) → 
 kept_or_not f true x xs = refl
 kept_or_not f false x xs = refl
 
--- a test of what is seen of items
+-- a filter by a test of the values that `f` returns
 seen : {X Y : Type 0} (f : X → Y) (test : Y → Bool) (xs : List X) → filter test (map f xs) ≡ map f (filter (λ x. test (f x)) xs)
 seen f test [] = refl
 seen f test (x ∷ xs) = ap (λ ys. cond (test (f x)) (f x ∷ ys) ys) (seen f test xs) ∙ kept_or_not f (test (f x)) x (filter (λ x. test (f x)) xs)

@@ -14,7 +14,7 @@ fn is_separator(byte: u8) -> bool
     byte == b'/' || byte == b'\\'
 }
 
-/// Returns what is between the separators of `path`.
+/// Returns the texts between the separators of `path`.
 fn pieces_of(alloc: Global, path: &[u8]) -> Result<Vec<&[u8]>, AllocError>
     ensures { IfOk result (λ pieces. texts pieces.items ≡ slice_split spec.is_separator path.now) }
 {
@@ -92,7 +92,7 @@ fn after_first<'s, 'p>(names: &'s [&'p [u8]]) -> &'s [&'p [u8]]
     }
 }
 
-/// Returns what is left of `from` and of `to` after the names with which both begin.
+/// Returns the rest of `from` and the rest of `to` after the names with which both begin.
 #[tactic(auto, using(crate::proofs::Ways::alike_filled, crate::proofs::Ways::way_alike, crate::proofs::Ways::way_apart))]
 fn parted<'s, 'p>(from: &'s [&'p [u8]], to: &'s [&'p [u8]]) -> (&'s [&'p [u8]], &'s [&'p [u8]])
     ensures { spec.way (texts from.entry.now) (texts to.entry.now) ≡ spec.up (texts result.0.now) ++ texts result.1.now }

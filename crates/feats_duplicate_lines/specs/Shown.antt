@@ -42,7 +42,7 @@ abbrev pub place_name : List Text → Place → Text
 place_name names place.Host = codes "host"
 place_name names (place.Target k) = unwrap_or (slice_get names k) []
 
--- What is said about the package with this number.
+-- The items that `said` returns for the package with this number; none if there is no such package.
 abbrev pub about : {X : Type 0} → List PackageText → (PackageText → List X) → ℕ → List X
 about packages said p = option_map_or said (slice_get packages p) []
 
